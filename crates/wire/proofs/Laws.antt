@@ -1,17 +1,16 @@
 -- Laws of numbers, each by induction on the number of groups. Assumes nothing.
 use Prim.Native.Nat.{ℕ, zero, suc, _+_, _*_, _-_, _%_, _/_, _^_, _<_, _≤_}
-use mathlib.Core.Path.{_≡_, refl, sym, ap, subst, _∙_}
-use mathlib.Core.List.{List, [], _∷_, _++_}
-use mathlib.Core.Bool.{Bool, true, false}
+use mathlib.Core.Path.{_≡_, refl, sym, subst, _∙_}
+use mathlib.Core.List.{List}
 use native.Mathlib.Omega.{arith}
 use native.Mathlib.Nat.{pow-suc, one-le-pow, pow-zero, pow-le-pow-right}
-use lib.ListN.{length, getD}
+use lib.ListN.{length}
 use lib.Dec.{ltb, lit<}
 use borrow.Author.Tests.{ltb-true, ltb-false, lt-ltb, le-ltb}
 use Rattle.wire.specs.Choice.{pick}
 use Rattle.wire.specs.declared.Num.{Num}
 use Rattle.wire.specs.declared.Num.the-variants.{Got, Bad, Cut}
-use Rattle.wire.specs.Number.{byteAt, more, groupsAt, numberAt, groupsOf, written}
+use Rattle.wire.specs.Number.{byteAt, more, groupsAt, groupsOf}
 use Rattle.wire.specs.Facts.{Stands, Bytes, NumberFacts}
 use Rattle.wire.proofs.Choice.{pick-case}
 

@@ -1,0 +1,34 @@
+-- `block::read_block` meets its contract: its kind, and then its row.
+use Rattle.block.proofs.Rows.{row-full, row-stopped, block-full, block-stopped, row-light}
+use Rattle.block.proofs.KindTable.{memory-light}
+use Rattle.block.proofs.Expressions.{typed-below}
+use Rattle.block.proofs.Answers.{typed-got, typed-fault}
+use Rattle.block.specs.Reading.{blockAt}
+use native.Mathlib.Omega.{arith}
+use mathlib.Core.Path.{_∙_, sym}
+use borrow.Author.Needs.{needs}
+use Rattle.block.proofs.read_block.Statement.{statement}
+use Rattle.block.proofs.read_block.Tie as tie
+
+returns : tie.Need-returns
+unfolding blockAt
+returns c = rw (typed-fault _ _ _ _ _ (sym (c .before .before .before .read-number .ensures) ∙ c .before .n .given .1))
+
+pub read-block-spec : {M : Type 1} → statement M
+read-block-spec =
+    tie.close
+    (tie.spec
+    (λ c κs. search needs)
+    (λ c. search needs)
+    (λ c. search needs)
+    (λ c. omega (arith, typed-below _ _ _ _ _ (typed-got _ _ _ _ _ (sym (c .before .before .before .read-number .ensures) ∙ c .before .n2 .given .1))))
+    (λ c κs. typed-below _ _ _ _ _ (typed-got _ _ _ _ _ (sym (c .before .before .before .read-number .ensures) ∙ c .before .n2 .given .1)))
+    (λ c. search needs)
+    (λ c. search needs)
+    (λ c κs. typed-below _ _ _ _ _ (typed-got _ _ _ _ _ (sym (c .before .before .before .before .before .before .before .read-number .ensures) ∙ c .before .before .before .before .before .n2 .given .1)))
+    (λ c. let e = typed-got _ _ _ _ _ (sym (c .before .before .before .before .before .before .before .before .read-number .ensures) ∙ c .before .before .before .before .before .before .n2 .given .1) in let l = typed-below _ _ _ _ _ e in omega (arith, c .memory-of .ensures, memory-light _ l, row-light _ _ _ e l (row-full _ _ _ _ _ _ (c .before .before .before .before .read-row .ensures) (c .before .before .end2 .given .1))))
+    (λ c κs. search needs)
+    (λ c κs. typed-below _ _ _ _ _ (typed-got _ _ _ _ _ (sym (c .before .before .before .before .before .before .before .before .before .read-number .ensures) ∙ c .before .before .before .before .before .before .before .n2 .given .1)))
+    returns
+    (λ c. block-stopped _ _ _ (typed-got _ _ _ _ _ (sym (c .before .before .before .before .before .before .before .read-number .ensures) ∙ c .before .before .before .before .before .n2 .given .1)) (row-stopped _ _ _ _ _ _ (c .before .before .before .read-row .ensures) (c .before .end .given .1)))
+    (λ c. rw (c .before .before .memory-of .ensures, c .before .figure-of .ensures, c .mark-of .ensures) (block-full _ _ _ (typed-got _ _ _ _ _ (sym (c .before .before .before .before .before .before .before .before .before .before .read-number .ensures) ∙ c .before .before .before .before .before .before .before .before .n2 .given .1)) (row-full _ _ _ _ _ _ (c .before .before .before .before .before .before .read-row .ensures) (c .before .before .before .before .end2 .given .1)))))

@@ -1,0 +1,5 @@
+pub mod Refusals
+pub mod Blocks
+pub mod Kinds
+pub mod Reading
+pub mod Answers
