@@ -9,9 +9,9 @@ use lib.Dec.{eqb}
 use lib.ListN.{length, getD, set, drop, drop-of-length-le}
 use lib.Seq.{drop-cons}
 use borrow.Author.Tests.{eq-eqb, ne-eqb}
-use Rattle.wire.proofs.Choice.{when-case}
-use Rattle.block.specs.Blocks.{Expr, Content, tree, nodes, nodesOf, nodesIn, codeOf}
-use Rattle.block.specs.Kinds.{expression, kindNumber, nothing, contentOf, settingOf, kindOf, typesOf, figureFor, markFor}
+use Rattle.wire.proofs.Choice.{pick-case, when-case}
+use Rattle.block.specs.Blocks.{Block, Expr, Content, tree, nodes, nodesOf, nodesIn, codeOf}
+use Rattle.block.specs.Kinds.{expression, kindNumber, nothing, contentOf, settingOf, kindOf, typesOf, memoryOf, figureFor, figureOf, markFor}
 use Rattle.block.specs.Reading.{Read, got, fault, andThen, Known, typedAt, exprAt, contentAt, fieldsAt, blockAt}
 use Rattle.block.specs.Answers.{fieldOf, blankRow, rowFrom, rowOf, briefOf}
 use Rattle.block.specs.declared.Field.the-variants.{Got, Fault}
@@ -19,8 +19,8 @@ use Rattle.block.specs.declared.End.the-variants.{Next, Fault as EndFaul
 use Rattle.block.specs.declared.Brief.the-variants.{Got as BriefGot, Fault as BriefFault}
 use Rattle.block.specs.declared.Row.{Row}
 use Rattle.block.proofs.References.{content-code, content-nodes, content-reference, content-setting}
-use Rattle.block.proofs.KindTable.{types-few}
-use Rattle.block.proofs.Expressions.{few, Whole, whole}
+use Rattle.block.proofs.KindTable.{types-few, memory-light}
+use Rattle.block.proofs.Expressions.{typed-below, few, Whole, whole}
 
 -- the field of a type, by what was read
 module _ (k : Known) (ty before : ℕ) (s : List ℕ) (at : ℕ) where
@@ -182,3 +182,40 @@ module _ (k : Known) (s : List ℕ) (at : ℕ) {v next : ℕ} (e : typedAt k kin
 
   pub row-light : {n end : ℕ} → v < 13 → Full (fieldsAt k (typesOf v) 0 s next) n end → n ≤ 315
   row-light l (full cs r h) = omega (arith, fields-few k (typesOf v) 0 s next r, types-few v l)
+
+-- a block's memory and step figure are small: a kind's own memory, and 63 nodes for each of five fields
+abbrev Light : Read Block → Type 0
+Light (got b next) = (memoryOf b ≤ 337) × (figureOf b ≤ 315)
+Light (fault n at) = Unit {0}
+
+figure-small : (n : ℕ) → n ≤ 315 → figureFor n ≤ 315
+unfolding figureFor
+figure-small n h = pick-case (λ (x : ℕ). x ≤ 315) (eqb n 0) (λ _. omega arith) (λ _. h)
+
+light-row :
+    (v : ℕ) (r : Read (List Content)) → v < 13 → RowFew (length (typesOf v) * 63) r →
+    Light (andThen r (λ cs end. got (record { kind = v; fields = cs }) end))
+light-row v (got cs end) l f =
+    let h : nodesIn cs ≤ 315 = omega (arith, types-few v l) in
+    (omega (arith, memory-light v l), figure-small (nodesIn cs) h)
+light-row v (fault n at) l f = tt
+
+light-kind :
+    (k : Known) (s : List ℕ) (r : Read ℕ) → ((v n : ℕ) → r ≡ got v n → v < 13) →
+    Light (andThen r (λ v next. andThen (fieldsAt k (typesOf v) 0 s next) (λ cs end. got (record { kind = v; fields = cs }) end)))
+light-kind k s (got v n) h = light-row v (fieldsAt k (typesOf v) 0 s n) (h v n refl) (row-few k (typesOf v) 0 s n)
+light-kind k s (fault n at) h = tt
+
+light-block : (k : Known) (s : List ℕ) (at : ℕ) → Light (blockAt k s at)
+unfolding blockAt
+light-block k s at = light-kind k s (typedAt k kindNumber 0 s at) (λ v n e. typed-below k kindNumber 0 s at e)
+
+brief-light : (r : Read Block) {m f b next : ℕ} → briefOf r ≡ BriefGot m f b next → Light r → (m ≤ 337) × (f ≤ 315)
+brief-light (got b n) {m} {f} e l =
+    let em : memoryOf b ≡ m = cc in
+    let ef : figureOf b ≡ f = cc in
+    (omega arith, omega arith)
+brief-light (fault n at) e l = let z : _≡_ {A = ℕ} 0 1 = cc in absurd (omega arith)
+
+pub block-light : (k : Known) (s : List ℕ) (at : ℕ) {m f b next : ℕ} → briefOf (blockAt k s at) ≡ BriefGot m f b next → (m ≤ 337) × (f ≤ 315)
+block-light k s at e = brief-light (blockAt k s at) e (light-block k s at)

@@ -1,0 +1,22 @@
+-- `program::read_alarms` meets its contract: the count, the references, and the end of the data.
+use Rattle.program.proofs.Laws.{alarms-bad, alarms-stop, alarms-more, alarms-end}
+use Rattle.block.proofs.Answers.{typed-got, typed-fault}
+use mathlib.Core.Path.{_∙_, sym}
+use borrow.Author.Needs.{needs}
+use Rattle.program.proofs.read_alarms.Statement.{statement}
+use Rattle.program.proofs.read_alarms.Tie as tie
+
+pub read-alarms-spec : {M : Type 1} → statement M
+read-alarms-spec =
+    tie.close
+    (tie.spec
+    (λ c κs. search needs)
+    (λ c. search needs)
+    (λ c. search needs)
+    (λ c κs. search needs)
+    (λ c. search needs)
+    (λ c. search needs)
+    (λ c. alarms-more _ _ _ (typed-got _ _ _ _ _ (sym (c .before .before .before .before .before .before .before .before .read-number .ensures) ∙ c .before .before .before .before .before .before .c2 .given .1)) (sym (c .before .before .before .before .read-references .ensures) ∙ c .before .before .r .given .1) (c .if1 .taken))
+    (λ c. alarms-bad _ _ _ (typed-fault _ _ _ _ _ (sym (c .before .before .before .read-number .ensures) ∙ c .before .c .given .1)))
+    (λ c. c .enum-told .given .1 ∙ alarms-stop _ _ _ (typed-got _ _ _ _ _ (sym (c .before .before .before .before .before .before .read-number .ensures) ∙ c .before .before .before .before .c2 .given .1)) (sym (c .before .before .read-references .ensures) ∙ c .enum-told .given .1))
+    (λ c. alarms-end _ _ _ (typed-got _ _ _ _ _ (sym (c .before .before .before .before .before .before .before .before .read-number .ensures) ∙ c .before .before .before .before .before .before .c2 .given .1)) (sym (c .before .before .before .before .read-references .ensures) ∙ c .before .before .r .given .1) (c .if1 .left)))

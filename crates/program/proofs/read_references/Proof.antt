@@ -1,0 +1,32 @@
+-- `program::read_references` meets its contract. The loop's invariant: what is left of the references is the whole.
+use Rattle.program.proofs.Laws.{references-got, references-stop, references-end}
+use Rattle.program.specs.Answers.{endOf}
+use Rattle.program.specs.Program.{referencesAt}
+use Rattle.block.proofs.Answers.{typed-got, typed-fault}
+use borrow.Author.Needs.{needs}
+use native.Mathlib.Omega.{arith}
+use mathlib.Core.Path.{_≡_, refl, _∙_, sym}
+use Rattle.program.proofs.read_references.Statement.{statement}
+use Rattle.program.proofs.read_references.Tie as tie
+
+abbrev Inv-loop : tie.InvT-loop
+Inv-loop s start n known at₀ left₀ at left = endOf (referencesAt known n s start) ≡ endOf (referencesAt known left s at)
+
+abbrev μ-loop : tie.MeasureT-loop
+μ-loop s start n known at₀ left₀ at left = left
+
+pub read-references-spec : {M : Type 1} → statement M
+read-references-spec =
+    tie.close
+    (tie.spec
+    Inv-loop
+    μ-loop
+    (λ c. refl)
+    (λ c κs. search needs)
+    (λ c. search needs)
+    (λ c. sym (c .before .before .before .before .before .loop .inv ∙ references-stop _ _ _ (c .before .before .before .before .loop-test .taken) (typed-fault _ _ _ _ _ (sym (c .before .before .before .read-number .ensures) ∙ c .before .r .given .1))))
+    (λ c. search needs)
+    (λ c. search needs)
+    (λ c. search needs)
+    (λ c. c .before .before .before .before .before .loop .inv ∙ references-got _ _ _ (c .before .before .before .before .loop-test .taken) (typed-got _ _ _ _ _ (sym (c .before .before .before .read-number .ensures) ∙ c .before .r2 .given .1)))
+    (λ c. sym (c .before .loop .inv ∙ references-end _ _ _ (omega arith))))

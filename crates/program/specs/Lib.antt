@@ -1,0 +1,3 @@
+pub mod Program
+pub mod Acceptance
+pub mod Answers
