@@ -66,7 +66,8 @@ const LIMITS: [u32; 13] = [
     240,
 ];
 
-// A row for each kind: the types of its fields, its memory, and 1 if it has a word output.
+// A row for each kind, BL, SR, PL, AL, DL, OS, FL, CN, UD, CP, OG, ZC, ST: the types of its fields, its memory, and 1 if it
+// has a word output.
 const KINDS: [[u8; 7]; 13] = [
     [EXPRESSION, NOTHING, NOTHING, NOTHING, NOTHING, 10, 0],
     [PIN, PIN, EITHER, NOTHING, NOTHING, 14, 0],

@@ -10,7 +10,7 @@ use borrow.Author.Tests.{ltb-true, ltb-false, lt-ltb, le-ltb}
 use Rattle.wire.specs.Choice.{pick}
 use Rattle.wire.specs.declared.Num.{Num}
 use Rattle.wire.specs.declared.Num.the-variants.{Got, Bad, Cut}
-use Rattle.wire.specs.Number.{byteAt, more, groupsAt, groupsOf}
+use Rattle.wire.specs.Number.{byteAt, more, notZero, groupsAt, groupsOf}
 use Rattle.wire.specs.Facts.{Stands, Bytes, NumberFacts}
 use Rattle.wire.proofs.Choice.{pick-case}
 
@@ -21,7 +21,7 @@ pub step :
     pick (ltb at (length s))
     (pick (ltb (byteAt s at) 128)
     (pick (ltb (byteAt s at) least) Bad (Got (byteAt s at) (at + 1)))
-    (more (byteAt s at % 128) (groupsAt (k - 1) 1 s (at + 1))))
+    (more (byteAt s at % 128) (groupsAt (k - 1) notZero s (at + 1))))
     Cut
 unfolding groupsAt
 step zero least s at ne = absurd (ne refl)
@@ -49,7 +49,7 @@ fair (suc k) least s at =
     pick-case F (ltb at (length s))
     (λ inside. pick-case F (ltb b 128)
     (λ lt. pick-case F (ltb b least) (λ _. tt) (λ _. omega (arith, ltb-true b 128 lt, ltb-true at (length s) inside)))
-    (λ _. fair-more k (b % 128) s at (groupsAt k 1 s (at + 1)) (omega arith) (fair k 1 s (at + 1))))
+    (λ _. fair-more k (b % 128) s at (groupsAt k notZero s (at + 1)) (omega arith) (fair k notZero s (at + 1))))
     (λ _. tt)
 
 pub below : (k least : ℕ) (s : List ℕ) (at v next : ℕ) → groupsAt k least s at ≡ Got v next → v < 128 ^ k
@@ -79,7 +79,7 @@ back-from (suc k) v least s at pos h l st =
     (λ lt st. rw (lt-ltb _ _ (st .0), st .1 .0, lt, le-ltb v least l))
     (λ ge st.
     let g = ltb-false v 128 ge in
-    let ih = back-from k (v / 128) 1 s (at + 1) (omega arith) (omega (arith, rw pow-suc at h)) (omega arith) (st .1 .1) in
+    let ih = back-from k (v / 128) notZero s (at + 1) (omega arith) (omega (arith, rw pow-suc at h)) (omega arith) (st .1 .1) in
     let m : (128 + v % 128) % 128 ≡ v % 128 = omega arith in
     let w : v % 128 + v / 128 * 128 ≡ v = omega arith in
     let n : at + 1 + length (groupsOf k (v / 128)) ≡ at + suc (length (groupsOf k (v / 128))) = omega arith in
@@ -105,7 +105,7 @@ formed-last k least s at inside low ge = rw (lt-ltb (byteAt s at) 128 low) (ge, 
 
 formed-more :
     (k least : ℕ) (s : List ℕ) (at : ℕ) (r : Num) → at < length s → 128 ≤ byteAt s at → byteAt s at < 256 → least ≤ 1 →
-    Formed k 1 s (at + 1) r → Formed (suc k) least s at (more (byteAt s at % 128) r)
+    Formed k notZero s (at + 1) r → Formed (suc k) least s at (more (byteAt s at % 128) r)
 unfolding groupsOf
 formed-more k least s at (Got v next) inside high byte l (pos, (st, e)) =
     let b : ℕ = byteAt s at in
@@ -126,7 +126,7 @@ formed (suc k) least s at bytes l =
     pick-case F (ltb at (length s))
     (λ inside. pick-case F (ltb b 128)
     (λ lt. pick-case F (ltb b least) (λ _. tt) (λ ge. formed-last k least s at (ltb-true at (length s) inside) (ltb-true b 128 lt) (ltb-false b least ge)))
-    (λ ge. formed-more k least s at (groupsAt k 1 s (at + 1)) (ltb-true at (length s) inside) (ltb-false b 128 ge) (bytes at) l (formed k 1 s (at + 1) bytes (omega arith))))
+    (λ ge. formed-more k least s at (groupsAt k notZero s (at + 1)) (ltb-true at (length s) inside) (ltb-false b 128 ge) (bytes at) l (formed k notZero s (at + 1) bytes (omega arith))))
     (λ _. tt)
 
 pub form :

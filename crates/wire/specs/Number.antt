@@ -16,8 +16,11 @@ more g (Got v next) = Got (g + v * 128) next
 more g Bad = Bad
 more g Cut = Cut
 
--- "the high bit says that another group follows": a number of at most k groups at a place.
--- "the last group is zero only for the one-byte number 0": `least` is 0 at the first group and 1 at each later one.
+-- "the last group is zero only for the one-byte number 0": the least last group after the first
+abbrev pub notZero : ℕ
+notZero = 1
+
+-- "the high bit says that another group follows": a number of at most k groups at a place, whose last group is at least `least`.
 -- "a third byte with the high bit on is over three groups, also as the last byte": no group left is Bad, before the end is looked at.
 unfoldable pub groupsAt : ℕ → ℕ → List ℕ → ℕ → Num
 groupsAt zero least s at = Bad
@@ -25,7 +28,7 @@ groupsAt (suc k) least s at =
     pick (ltb at (length s))
     (pick (ltb (byteAt s at) 128)
     (pick (ltb (byteAt s at) least) Bad (Got (byteAt s at) (at + 1)))
-    (more (byteAt s at % 128) (groupsAt k 1 s (at + 1))))
+    (more (byteAt s at % 128) (groupsAt k notZero s (at + 1))))
     Cut
 
 -- "A number is one to three groups"
