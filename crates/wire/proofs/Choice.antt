@@ -1,7 +1,12 @@
--- What holds of both ways of a choice holds of the choice.
-use mathlib.Core.Path.{_≡_, refl}
+-- What holds of both ways of a choice holds of the choice; and a test of every element, on a walk from the front.
+use mathlib.Core.Path.{_≡_, refl, sym}
 use mathlib.Core.Bool.{Bool, true, false}
-use Rattle.wire.specs.Choice.{pick, when}
+use mathlib.Core.List.{List}
+use Prim.Native.Nat.{ℕ, _+_, _≤_, _<_}
+use native.Mathlib.Numerals.{add-one}
+use lib.ListN.{length, drop, getD, drop-of-length-le}
+use lib.Seq.{drop-cons}
+use Rattle.wire.specs.Choice.{pick, when, every}
 
 pub pick-case :
     {A : Type 0} (P : A → Type 0) (b : Bool) {x y : A} → (b ≡ true → P x) → (b ≡ false → P y) → P (pick b x y)
@@ -12,3 +17,13 @@ pub when-case :
     {A : Type 0} (P : A → Type 0) (b : Bool) (f g : Unit {0} → A) → (b ≡ true → P (f tt)) → (b ≡ false → P (g tt)) → P (when b f g)
 when-case P true f g x y = x refl
 when-case P false f g x y = y refl
+
+module _ {A : Type 0} (test : A → Bool) (xs : List A) (i : ℕ) where
+  pub every-pass : (d : A) → i < length xs → test (getD xs i d) ≡ true → every test (drop (i + 1) xs) ≡ every test (drop i xs)
+  every-pass d h e = sym (rw (add-one, drop-cons xs i d, e))
+
+  pub every-fail : (d : A) → i < length xs → test (getD xs i d) ≡ false → every test (drop i xs) ≡ false
+  every-fail d h e = rw (drop-cons xs i d, e)
+
+  pub every-end : length xs ≤ i → every test (drop i xs) ≡ true
+  every-end h = rw drop-of-length-le
