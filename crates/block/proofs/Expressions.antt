@@ -1,6 +1,7 @@
 -- Laws of expressions: what a node that is read tells, one level of the tree, and the nodes that it takes. Assumes nothing.
 use Prim.Native.Nat.{ℕ, zero, suc, _+_, _-_, _<_, _≤_}
 use mathlib.Core.Path.{_≡_, refl, subst}
+use mathlib.Core.Bool.{true}
 use mathlib.Core.List.{List}
 use native.Mathlib.Omega.{arith}
 use lib.Dec.{eqb, leb}
@@ -19,26 +20,33 @@ use Rattle.block.specs.declared.Node.the-variants.{Leaf, One, Two, Stop}
 use Rattle.block.specs.declared.Passed.the-variants.{Good, Fault}
 use Rattle.block.proofs.References.{allowed-below}
 
--- a number that is read is below its type's limit
+-- a number that is read is allowed where it stands
+abbrev Allowed : ℕ → ℕ → Read ℕ → Type 0
+Allowed ty before (got v next) = allowed ty before v ≡ true
+Allowed ty before (fault n at) = Unit {0}
+
+judged-allowed : (k : Known) (ty before at : ℕ) (m : Num) → Allowed ty before (judged k ty before at m)
+judged-allowed k ty before at Bad = tt
+judged-allowed k ty before at Cut = tt
+judged-allowed k ty before at (Got v next) =
+    let A : Read ℕ → Type 0 = Allowed ty before in
+    pick-case A (allowed ty before v) (λ e. pick-case A (known k ty v) (λ _. e) (λ _. tt)) (λ _. tt)
+
+pub typed-allowed : (k : Known) (ty before : ℕ) (s : List ℕ) (at : ℕ) {v next : ℕ} → typedAt k ty before s at ≡ got v next → allowed ty before v ≡ true
+unfolding typedAt
+typed-allowed k ty before s at e = subst (Allowed ty before) e (judged-allowed k ty before at (numberAt s at))
+
+-- so that it is below its type's limit
+pub typed-below : (k : Known) (ty before : ℕ) (s : List ℕ) (at : ℕ) {v next : ℕ} → typedAt k ty before s at ≡ got v next → v < getD limits ty 0
+typed-below k ty before s at e = allowed-below ty before _ (typed-allowed k ty before s at e)
+
 abbrev Below : ℕ → Read ℕ → Type 0
 Below b (got v next) = v < b
 Below b (fault n at) = Unit {0}
 
-judged-below : (k : Known) (ty before at : ℕ) (m : Num) → Below (getD limits ty 0) (judged k ty before at m)
-judged-below k ty before at Bad = tt
-judged-below k ty before at Cut = tt
-judged-below k ty before at (Got v next) =
-    let B : Read ℕ → Type 0 = Below (getD limits ty 0) in
-    pick-case B (allowed ty before v)
-    (λ e. pick-case B (known k ty v) (λ _. allowed-below ty before v e) (λ _. tt))
-    (λ _. tt)
-
-typed-within : (k : Known) (ty before : ℕ) (s : List ℕ) (at : ℕ) → Below (getD limits ty 0) (typedAt k ty before s at)
-unfolding typedAt
-typed-within k ty before s at = judged-below k ty before at (numberAt s at)
-
-pub typed-below : (k : Known) (ty before : ℕ) (s : List ℕ) (at : ℕ) {v next : ℕ} → typedAt k ty before s at ≡ got v next → v < getD limits ty 0
-typed-below k ty before s at e = subst (Below (getD limits ty 0)) e (typed-within k ty before s at)
+below-of : (b : ℕ) (r : Read ℕ) → ((v n : ℕ) → r ≡ got v n → v < b) → Below b r
+below-of b (got v n) h = h v n refl
+below-of b (fault n at) h = tt
 
 -- what a node that is read tells: a level and a node are left, and its number is in range
 abbrev pub Sound : ℕ → ℕ → Node → Type 0
@@ -59,7 +67,7 @@ sound-of d l at (got v next) w =
 
 pub sound : (k : Known) (d l : ℕ) (s : List ℕ) (at : ℕ) {r : Node} → headAt k d l s at ≡ r → Sound d l r
 unfolding headAt
-sound k d l s at e = subst (Sound d l) e (sound-of d l at (typedAt k nodeNumber 0 s at) (typed-within k nodeNumber 0 s at))
+sound k d l s at e = subst (Sound d l) e (sound-of d l at (typedAt k nodeNumber 0 s at) (below-of 240 (typedAt k nodeNumber 0 s at) (λ v n. typed-below k nodeNumber 0 s at)))
 
 -- one node, over the readers of its parts at one level less
 stop-deep : (f g : ℕ → ℕ → Read Expr) (left : ℕ) (n : Node) → Sound 0 left n → grow f left n ≡ grow g left n

@@ -1,11 +1,12 @@
 -- The table of kinds: the code's rows are the definition's, by one test of each table. Assumes nothing.
 use mathlib.Core.Path.{_≡_, refl, sym, _∙_}
-use mathlib.Core.Bool.{Bool, true, false, Bool·beq}
+use mathlib.Core.Bool.{Bool, true, false, _||_, Bool·beq}
 use mathlib.Core.List.{List, [], _∷_, _++_, map}
 use Prim.Native.Nat.{ℕ, _<_, _≤_}
 use native.Mathlib.Omega.{arith}
 use lib.Dec.{T, eqb, ltb, leb, ltb→lt, eqb→eq, leb→le}
 use lib.ListN.{length, getD, take, replicate, List·getD-eq-default}
+use borrow.Author.Tests.{ne-eqb}
 use lib.Seq.{getD-take}
 use Rattle.block.specs.Kinds.{nothing, Kind, kind, kinds, kindOf, typesOf}
 use Rattle.block.proofs.Table.{every, at}
@@ -34,6 +35,9 @@ right-type k i x = eqb x (getD (typesOf k) i nothing)
 
 real-type : ℕ → ℕ → Bool
 real-type i x = ltb x 14
+
+plain-type : ℕ → ℕ → Bool
+plain-type i x = ltb x 13
 
 module _ (k : ℕ) (h : k < 13) where
   -- a test that each row passes, at row k
@@ -65,6 +69,14 @@ module _ (k : ℕ) (h : k < 13) where
   pub type-real : (i : ℕ) → i < length (typesOf k) → getD (typesOf k) i nothing < 14
   unfolding real-type kindOf
   type-real i l = ltb→lt _ _ (at real-type nothing (typesOf k) (passes (λ k r. every real-type nothing 0 (typesOf k)) tt) i l)
+
+  -- no kind but BL has an expression
+  pub type-plain : 0 < k → (i : ℕ) → i < length (typesOf k) → getD (typesOf k) i nothing < 13
+  unfolding plain-type kindOf
+  type-plain p i l =
+      let t : T (eqb k 0 || every plain-type nothing 0 (typesOf k)) = passes (λ k r. eqb k 0 || every plain-type nothing 0 (typesOf k)) tt in
+      let u : T (every plain-type nothing 0 (typesOf k)) = rw (ne-eqb k 0 (λ z. omega arith)) at t in
+      ltb→lt _ _ (at plain-type nothing (typesOf k) u i l)
 
   pub type-none : (i : ℕ) → getD (typesOf k) i nothing ≡ nothing → length (typesOf k) ≤ i
   type-none i e = not-lt (λ l. let h = type-real i l in omega arith)

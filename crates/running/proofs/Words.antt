@@ -1,0 +1,66 @@
+-- Words carried as numbers, n for n − k: they fit sixteen bits; and word references by the ranges of their numbers. Assumes nothing.
+use Prim.Native.Nat.{ℕ, suc, _+_, _-_, _^_, _≤_, _<_}
+use mathlib.Core.Path.{_≡_, refl}
+use mathlib.Core.Bool.{Bool, true, false, cond, not, _&&_}
+use mathlib.Core.List.{List}
+use native.Mathlib.Omega.{arith}
+use lib.Dec.{ltb, leb}
+use lib.IntN.{ℤ, pos, negsuc, subℕ}
+use lib.ListN.{getD}
+use borrow.Author.Tests.{ltb-true, ltb-false, le-leb, not-true}
+use mir.Syntax.{w16, w32}
+use mir.Val.{SFits, toZ}
+use mir.Facts.{toZ-pos, sfits-widen}
+use Rattle.block.specs.Kinds.{wordPin, allowed, excepted, wordRef}
+use Rattle.block.proofs.References.{word-cases, allowed-below}
+use Rattle.running.specs.Running.{wordIn}
+
+fits-by : (n k : ℕ) (t : Bool) → ltb n k ≡ t → k ≤ n + 32768 → n ≤ k + 32767 → SFits w16 (cond t (negsuc (k - suc n)) (pos (n - k)))
+fits-by n k true e low high = record { sfits = omega (arith, ltb-true n k e) }
+fits-by n k false e low high = record { sfits = omega (arith, ltb-false n k e) }
+
+module _ (n k : ℕ) (low : k ≤ n + 32768) (high : n ≤ k + 32767) where
+  pub narrow : SFits w16 (subℕ n k)
+  narrow = fits-by n k (ltb n k) refl low high
+
+  pub wide : SFits w32 (subℕ n k)
+  wide = sfits-widen tt narrow
+
+-- a number below 2^31 is itself in 32 signed bits
+pub plain : (n : ℕ) → n < 2 ^ 31 → toZ w32 n ≡ pos n
+plain n h = toZ-pos w32 h
+
+pub plain-fits : {n : ℕ} → n < 2 ^ 31 → SFits w32 (pos n)
+plain-fits h = record { sfits = h }
+
+pub small-fits : {n : ℕ} → n < 2 ^ 15 → SFits w16 (pos n)
+small-fits h = record { sfits = h }
+
+-- a word reference below 208 is a place of the list
+pub word-low : (l : List ℤ) (r : ℕ) → r < 208 → getD l r (pos 0) ≡ wordIn l (wordRef r)
+word-low l r h =
+    word-cases (λ w. getD l r (pos 0) ≡ wordIn l w) r (λ a. refl)
+    (λ a b. let e : r - 8 + 8 ≡ r = omega arith in rw e) (λ a. absurd (omega arith))
+
+-- and any other is a constant
+pub word-high : (l : List ℤ) (r : ℕ) → 208 ≤ r → subℕ r 33768 ≡ wordIn l (wordRef r)
+word-high l r h = word-cases (λ w. subℕ r 33768 ≡ wordIn l w) r (λ a. absurd (omega arith)) (λ a b. absurd (omega arith)) (λ a. refl)
+
+-- which is 1,000 or more
+past : (a b : Bool) → (a && b) ≡ true → b ≡ true
+past true b e = e
+past false b e = let z : _≡_ {A = ℕ} 0 1 = cc in absurd (omega arith)
+
+pub word-constant : (r : ℕ) → allowed wordPin 0 r ≡ true → 208 ≤ r → (1000 ≤ r) × (r < 66536)
+unfolding allowed excepted
+word-constant r e h =
+    let g : (leb 208 r && ltb r 1000) ≡ false = not-true (leb 208 r && ltb r 1000) (past (ltb r 66536) _ e) in
+    (ltb-false r 1000 (rw (le-leb 208 r h) at g), allowed-below wordPin 0 r e)
+
+-- a setting that is not carried as 32,768 is not 0
+not-zero-by : (v : ℕ) (t : Bool) → ltb v 32768 ≡ t → (v ≡ 32768 → ⊥) → cond t (negsuc (32768 - suc v)) (pos (v - 32768)) ≡ pos 0 → ⊥
+not-zero-by v true e ne z = let w : _≡_ {A = ℕ} 0 1 = cc in omega arith
+not-zero-by v false e ne z = let w : v - 32768 ≡ 0 = cc in omega (arith, ltb-false v 32768 e, ne (omega (arith, ltb-false v 32768 e)))
+
+pub not-zero : (v : ℕ) → (v ≡ 32768 → ⊥) → subℕ v 32768 ≡ pos 0 → ⊥
+not-zero v ne z = not-zero-by v (ltb v 32768) refl ne z

@@ -1,0 +1,18 @@
+-- `running::turn_bl` meets its contract: the expression's value and steps.
+use Rattle.running.proofs.Turns.{bl-done, bl-broken}
+use mathlib.Core.Path.{_∙_, sym}
+use borrow.Author.Needs.{needs}
+use Rattle.running.proofs.turn_bl.Statement.{statement}
+use Rattle.running.proofs.turn_bl.Tie as tie
+
+pub turn-bl-spec : {M : Type 1} → statement M
+turn-bl-spec =
+    tie.close
+    (tie.spec
+    (λ c κs. search needs)
+    (λ c. search needs)
+    (λ c κs. search needs)
+    (λ c. search needs)
+    (λ c κs. search needs)
+    (λ c. λ g e. c .none .ensures ∙ bl-broken _ _ _ _ g e _ (sym (c .before .before .before .before .eval .ensures) ∙ c .before .before .v .given .1))
+    (λ c. λ g e. rw (c .bl .ensures) (bl-done _ _ _ _ g e _ (sym (c .before .before .before .before .eval .ensures) ∙ c .before .before .v2 .given .1))))

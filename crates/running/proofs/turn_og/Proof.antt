@@ -1,0 +1,33 @@
+-- `running::turn_og` meets its contract: the letters of OG at its fields.
+use lib.Dec.{lit<}
+use borrow.Author.Needs.{needs}
+use native.Mathlib.Nat.{le-of-suc-le-suc}
+use mir.Syntax.{w16}
+use mir.Facts.{toZ-ofZ}
+use Rattle.block.specs.Kinds.{contentOf, kindOf, typesOf}
+use Rattle.running.specs.Running.{ruleOf, ruled}
+use Rattle.running.specs.Answers.{contents}
+use Rattle.running.proofs.Fields.{here, below, word-allowed, divisor-allowed}
+use Rattle.running.proofs.Words.{not-zero}
+use Rattle.running.proofs.turn_og.Statement.{statement}
+use Rattle.running.proofs.turn_og.Tie as tie
+
+pub turn-og-spec : {M : Type 1} → statement M
+unfolding contentOf contents kindOf ruleOf ruled
+turn-og-spec =
+    tie.close
+    (tie.spec
+    (λ c. search needs)
+    (λ c κs. below (typesOf 10) _ (c .pre) 0 (lit< tt))
+    (λ c. search needs)
+    (λ c κs. le-of-suc-le-suc (below (typesOf 10) _ (c .before .pre) 1 (lit< tt)))
+    (λ c. search needs)
+    (λ c κs. le-of-suc-le-suc (below (typesOf 10) _ (c .before .before .pre) 2 (lit< tt)))
+    (λ c. search needs)
+    (λ c κs. le-of-suc-le-suc (below (typesOf 10) _ (c .before .before .before .pre) 3 (lit< tt)))
+    (λ c. search needs)
+    (λ c κs. word-allowed _ _ (here (typesOf 10) _ (c .before .before .before .before .pre) 4 (lit< tt)))
+    (λ c κs. rw (toZ-ofZ {w = w16} {z = c .before .before .plus-minus2 .result} (record { sfits = c .before .before .plus-minus2 .ok }), c .before .before .plus-minus2 .ensures) (not-zero _ (divisor-allowed _ _ (here (typesOf 10) _ (c .before .before .before .before .before .pre) 2 (lit< tt)))))
+    (λ c κs. search needs)
+    (λ c κs. search needs)
+    (λ c. rw (c .pin .ensures, c .before .pack .ensures, c .before .before .og .ensures, toZ-ofZ {w = w16} {z = c .before .before .before .word .result} (record { sfits = c .before .before .before .word .ok }), c .before .before .before .word .ensures, toZ-ofZ {w = w16} {z = c .before .before .before .before .plus-minus3 .result} (record { sfits = c .before .before .before .before .plus-minus3 .ok }), c .before .before .before .before .plus-minus3 .ensures, toZ-ofZ {w = w16} {z = c .before .before .before .before .before .plus-minus2 .result} (record { sfits = c .before .before .before .before .before .plus-minus2 .ok }), c .before .before .before .before .before .plus-minus2 .ensures, toZ-ofZ {w = w16} {z = c .before .before .before .before .before .before .plus-minus .result} (record { sfits = c .before .before .before .before .before .before .plus-minus .ok }), c .before .before .before .before .before .before .plus-minus .ensures, c .before .before .before .before .before .before .before .bit .ensures)))
