@@ -1,0 +1,80 @@
+-- Document 01: the whole answer of a scan and of a take, refusals included.
+use mathlib.Core.Bool.{Bool, false, not, _||_}
+use mathlib.Core.List.{List}
+use Prim.Native.Nat.{ℕ, _+_, _-_, _^_}
+use lib.ListN.{length}
+use lib.Dec.{ltb, eqb}
+use Rattle.wire.specs.Choice.{pick}
+use Rattle.block.specs.Reading.{Read, got, fault}
+use Rattle.program.specs.Program.{Program, programAt}
+use Rattle.program.specs.Acceptance.{everyBlock, accepted}
+use Rattle.journal.specs.declared.Taken.{Taken}
+use Rattle.journal.specs.declared.Stamp.{Stamp}
+use Rattle.journal.specs.Journal.{zeroEntry, risen, taken}
+use Rattle.hall.specs.declared.State.{State}
+use Rattle.hall.specs.declared.Scanned.{Scanned}
+use Rattle.hall.specs.declared.Handed.{Handed}
+use Rattle.hall.specs.State.{goodState}
+use Rattle.hall.specs.Scan.{Inputs, scanTo, stepsTo, alarmWord}
+
+-- Numbers of refusal: "5 bad state", "6 elapsed would carry the time over 2^64 − 1, or missed is over 2^64 − 33"
+abbrev pub badState : ℕ
+badState = 5
+
+abbrev pub tooFar : ℕ
+tooFar = 6
+
+-- "A refusal gives back the given state and zeros for alarm word, steps, rises and entry."
+abbrev pub refusedScan : State → ℕ → ℕ → Scanned
+refusedScan s n at = record { state = s; refusal = n; place = at; alarms = 0; steps = 0; rises = 0 }
+
+abbrev pub refusedTake : State → ℕ → Handed
+refusedTake s n = record { state = s; refusal = n; found = false; entry = zeroEntry }
+
+-- what a scan writes beside the alarm number: "time as just grown"
+abbrev pub stampOf : Inputs → State → Stamp
+stampOf x s = record { time = s .time + x .elapsed }
+
+-- "Then the time grows by E and the alarm references are read .. A scan answers the state, this word, its steps and how many alarms rose in it."
+unfoldable pub answered : Program → Inputs → State → Scanned
+answered p x s =
+    let ps = scanTo x (p .blocks) (length (p .blocks)) (s .places) in
+    let w = alarmWord x ps (p .alarms) in
+    let j = risen w (s .alarms) (stampOf x s) (s .journal) in
+    record {
+      state = record { places = ps; time = s .time + x .elapsed; alarms = w; journal = j .journal };
+      refusal = 0;
+      place = 0;
+      alarms = w;
+      steps = stepsTo x (p .blocks) (length (p .blocks)) (s .places);
+      rises = j .rises;
+    }
+
+-- a program that was accepted can be read
+abbrev pub answerOf : Inputs → State → Read Program → Scanned
+answerOf x s (got p end) = answered p x s
+answerOf x s (fault n at) = refusedScan s n at
+
+unfoldable pub late : Inputs → State → Bool
+late x s = ltb (2 ^ 64 - 1) (s .time + x .elapsed) || ltb (2 ^ 64 - 33) (s .journal .missed)
+
+-- "Only after the whole is read come 3 .., then 4, 5, 6"; "A scan answers all six"
+unfoldable pub scanOf : List ℕ → Inputs → State → Scanned
+scanOf bytes x s =
+    pick (not (eqb (accepted bytes .refusal) 0)) (refusedScan s (accepted bytes .refusal) (accepted bytes .place))
+    (pick (not (goodState s)) (refusedScan s badState 0)
+    (pick (late x s) (refusedScan s tooFar 0)
+    (answerOf x s (programAt everyBlock bytes))))
+
+-- "a take only 5"
+abbrev pub handedBy : State → Taken → Handed
+handedBy s t =
+    record {
+      state = record { places = s .places; time = s .time; alarms = s .alarms; journal = t .journal };
+      refusal = 0;
+      found = t .found;
+      entry = t .entry;
+    }
+
+unfoldable pub takeOf : State → Handed
+takeOf s = pick (not (goodState s)) (refusedTake s badState) (handedBy s (taken (s .journal)))

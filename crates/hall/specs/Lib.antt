@@ -1,0 +1,4 @@
+pub mod State
+pub mod Scan
+pub mod Calls
+pub mod Answers
