@@ -1,0 +1,2 @@
+-- The laws that the proof of `text::distance` cites.
+pub mod Signs
