@@ -1,61 +1,6 @@
 // Every file that an argument names, under its name: each of its lines is a case of acceptance, a name and a program in hex.
 // tests/acceptance.py writes the files and what is to be printed.
 use libc::STDOUT_FILENO;
-ghost use Prim.Native.Nat.{_≤_};
-ghost use lib.ListN.{length};
-ghost use Rattle.io.specs.Counts.{Counts};
-
-// The next place at or after `from` where `stop` stands, or the end of the text.
-fn until(text: &[u8], from: usize, stop: u8) -> usize
-    requires { ⌜ from ≤ length (now text) ⌝ }
-    ensures { λ r. ⌜ (from ≤ r) × Counts r (now (text .entry)) ⌝ }
-{
-    let mut at = from;
-    while at < text.len() {
-        if text[at] == stop {
-            return at;
-        }
-        at += 1;
-    }
-    at
-}
-
-// The value of a hex digit of the cases, which are upper case.
-fn digit(b: u8) -> u8
-    ensures { λ r. ⌜ r ≤ 15 ⌝ }
-{
-    if b < 48 {
-        return 0;
-    }
-    if b < 58 {
-        return b - 48;
-    }
-    if b < 65 {
-        return 0;
-    }
-    if b < 71 {
-        return b - 55;
-    }
-    0
-}
-
-// Puts the bytes that the digits stand for at the front of a buffer, and tells how many there are.
-fn bytes_of(digits: &[u8], out: &mut [u8]) -> usize
-    ensures { λ r. ⌜ Counts r (now (out .exit)) ⌝ }
-{
-    let n = digits.len() / 2;
-    let mut i: usize = 0;
-    while i < n {
-        if out.len() <= i {
-            return i;
-        }
-        let high = digit(digits[i * 2]);
-        let low = digit(digits[i * 2 + 1]);
-        out[i] = high * 16 + low;
-        i += 1;
-    }
-    i
-}
 
 // Prints words and a number.
 fn say(words: &[u8], n: u64) {
@@ -78,11 +23,11 @@ fn answer(bytes: &[u8]) {
 
 // One line of a file, without its end.
 fn case(line: &[u8]) {
-    let name = until(line, 0, b' ');
+    let name = text::until(line, 0, b' ');
     io::write_all(STDOUT_FILENO, &line[..name]);
     let mut buf = [0u8; 32768];
     if name < line.len() {
-        let n = bytes_of(&line[name + 1..], &mut buf);
+        let n = text::bytes_of(&line[name + 1..], &mut buf);
         answer(&buf[..n]);
     }
 }
@@ -91,7 +36,7 @@ fn case(line: &[u8]) {
 fn cases(text: &[u8]) {
     let mut at: usize = 0;
     while at < text.len() {
-        let end = until(text, at, b'\n');
+        let end = text::until(text, at, b'\n');
         case(&text[at..end]);
         at = end;
         if at < text.len() {

@@ -3,7 +3,6 @@
 use libc::STDOUT_FILENO;
 
 mod state;
-mod text;
 
 ghost use mathlib.Core.Path.{_≡_};
 ghost use lib.ListN.{length};

@@ -1,5 +1,4 @@
 // The parts of a state: whether two are the same in all of them, and setting one.
-use crate::text;
 ghost use Prim.Native.Nat.{_<_};
 
 // Whether all 200 places are the same in every field.

@@ -1,12 +1,12 @@
--- `hall_cases::text::start_of` meets its contract: the place stays within the line, and a word is counted off only while some are left.
+-- `text::start_of` meets its contract: the place stays within the line, and a word is counted off only while some are left.
 use lib.Seq.{length-take-le}
 use mathlib.Core.Path.{sym}
 use native.Mathlib.Omega.{arith}
 use lib.ListN.{length}
 use Prim.Native.Nat.{_-_, _≤_}
 use borrow.Author.Needs.{needs}
-use Rattle.hall_cases.proofs.text.start_of.Statement.{statement}
-use Rattle.hall_cases.proofs.text.start_of.Tie as tie
+use Rattle.text.proofs.start_of.Statement.{statement}
+use Rattle.text.proofs.start_of.Tie as tie
 
 abbrev Inv-loop : tie.InvT-loop
 Inv-loop line k at₀ left₀ at left = at ≤ length line

@@ -1,12 +1,12 @@
--- `accept_cases::until` meets its contract: the place stays between where it began and the end.
+-- `text::until` meets its contract: the place stays between where it began and the end.
 use lib.Seq.{length-take-le}
-use native.Mathlib.Omega.{arith}
 use mathlib.Core.Path.{sym}
-use borrow.Author.Needs.{needs}
+use native.Mathlib.Omega.{arith}
 use lib.ListN.{length}
 use Prim.Native.Nat.{_-_, _≤_}
-use Rattle.accept_cases.proofs.until.Statement.{statement}
-use Rattle.accept_cases.proofs.until.Tie as tie
+use borrow.Author.Needs.{needs}
+use Rattle.text.proofs.until.Statement.{statement}
+use Rattle.text.proofs.until.Tie as tie
 
 abbrev Inv-loop : tie.InvT-loop
 Inv-loop text from stop at₀ at = (from ≤ at) × (at ≤ length text)

@@ -1,12 +1,12 @@
--- `accept_cases::bytes_of` meets its contract: as many bytes are written as places passed.
+-- `text::bytes_of` meets its contract: as many bytes are written as places passed, and the buffer keeps its length.
 use lib.Seq.{length-take-le}
 use mathlib.Core.Path.{_≡_, sym}
 use borrow.Author.Needs.{needs}
 use lib.ListN.{length, length-set}
 use native.Mathlib.Omega.{arith}
 use Prim.Native.Nat.{_-_, _≤_}
-use Rattle.accept_cases.proofs.bytes_of.Statement.{statement}
-use Rattle.accept_cases.proofs.bytes_of.Tie as tie
+use Rattle.text.proofs.bytes_of.Statement.{statement}
+use Rattle.text.proofs.bytes_of.Tie as tie
 
 abbrev Inv-loop : tie.InvT-loop
 Inv-loop digits out₀ n i₀ out i = (i ≤ n) × ((i ≤ length out) × (length out ≡ length out₀))
@@ -22,7 +22,7 @@ bytes-of-spec =
     μ-loop
     (λ c. search needs)
     (λ c. search needs)
-    (λ c. (omega arith, sym (length-take-le _ _ (omega arith))))
+    (λ c. ((omega arith, sym (length-take-le _ _ (omega arith))), omega arith))
     (λ c. search needs)
     (λ c. search needs)
     (λ c κs. search needs)
@@ -37,4 +37,4 @@ bytes-of-spec =
     (λ c. search needs)
     (λ c. (omega arith, (simp length-set (omega arith), simp length-set (c .before .before .before .before .before .before .loop .inv .1 .1))))
     (λ c. search needs)
-    (λ c. (omega arith, sym (length-take-le _ _ (omega arith)))))
+    (λ c. ((omega arith, sym (length-take-le _ _ (omega arith))), omega arith)))

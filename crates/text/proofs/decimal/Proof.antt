@@ -1,9 +1,9 @@
--- `hall_cases::text::decimal` meets its contract: the place moves on by one byte, and no sum is made here.
+-- `text::decimal` meets its contract: the place moves on by one byte, and no sum is made here.
 use lib.ListN.{length}
 use Prim.Native.Nat.{_-_, _≤_}
 use borrow.Author.Needs.{needs}
-use Rattle.hall_cases.proofs.text.decimal.Statement.{statement}
-use Rattle.hall_cases.proofs.text.decimal.Tie as tie
+use Rattle.text.proofs.decimal.Statement.{statement}
+use Rattle.text.proofs.decimal.Tie as tie
 
 abbrev Inv-loop : tie.InvT-loop
 Inv-loop text n₀ at₀ n at = at ≤ length text

@@ -1,4 +1,5 @@
-// Reading a line of words with single spaces between them; word 0 is the command.
+// What the programs that run cases share: lines of words with single spaces between them, decimal numbers and hex.
+// Nothing but their safety is promised: what they read is compared when the cases are run.
 ghost use mathlib.Core.Path.{_≡_};
 ghost use Prim.Native.Nat.{_≤_};
 ghost use lib.ListN.{length};
@@ -133,7 +134,7 @@ fn digit(b: u8) -> u8
 
 // Puts the bytes that the digits stand for at the front of a buffer, and tells how many there are.
 pub fn bytes_of(digits: &[u8], out: &mut [u8]) -> usize
-    ensures { λ r. ⌜ length (now (out .exit)) ≡ length (now (out .entry)) ⌝ }
+    ensures { λ r. ⌜ Counts r (now (out .exit)) × (length (now (out .exit)) ≡ length (now (out .entry))) ⌝ }
 {
     let n = digits.len() / 2;
     let mut i: usize = 0;
