@@ -1,12 +1,12 @@
 -- Bit and word references by the ranges of their numbers, and what a number says in a field. Assumes nothing.
 use mathlib.Core.Path.{_≡_, refl, sym}
-use mathlib.Core.Bool.{Bool, true, false, not, _&&_}
+use mathlib.Core.Bool.{Bool, true, false, not}
 use Prim.Native.Nat.{ℕ, _-_, _≤_, _<_}
 use native.Mathlib.Omega.{arith}
 use lib.Dec.{ltb, leb, eqb}
 use lib.ListN.{getD}
 use borrow.Author.Tests.{eqb-true, eqb-false, ltb-true, ltb-false, leb-true, leb-false, lt-ltb, le-ltb, ne-eqb}
-use Rattle.wire.proofs.Choice.{pick-case}
+use Rattle.wire.proofs.Choice.{pick-case, both}
 use Rattle.block.specs.Blocks.{Bit, off, on, input, output, Word, analog, wordOf, constant, bit, word, number, nodesOf, bitCode, wordCode, codeOf}
 use Rattle.block.specs.Kinds.{pin, wordPin, limits, allowed, bitRef, wordRef, contentOf, settingOf}
 use Rattle.block.specs.Reading.{Known, bitKnown, wordKnown, known}
@@ -56,11 +56,7 @@ word-of k r g h =
 -- an allowed number is below its type's limit
 pub allowed-below : (ty before v : ℕ) → allowed ty before v ≡ true → v < getD limits ty 0
 unfolding allowed
-allowed-below ty before v e = ltb-true v (getD limits ty 0) (first (ltb v (getD limits ty 0)) _ e)
-  where
-    first : (a b : Bool) → (a && b) ≡ true → a ≡ true
-    first true b e = refl
-    first false b e = e
+allowed-below ty before v e = ltb-true v (getD limits ty 0) (both (ltb v (getD limits ty 0)) _ e .0)
 
 pub leb-not : (a b : ℕ) → leb a b ≡ not (ltb b a)
 leb-not a b = go (leb a b) refl

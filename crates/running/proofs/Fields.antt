@@ -10,11 +10,8 @@ use lib.ListN.{length, getD}
 use borrow.Author.Tests.{eqb-false, not-true}
 use Rattle.block.specs.Kinds.{nothing, wordPin, divisor, offTime, limits, allowed, excepted, contentOf, settingOf, kindOf, typesOf}
 use Rattle.block.proofs.References.{allowed-below}
+use Rattle.wire.proofs.Choice.{both}
 use Rattle.running.specs.Answers.{allAllowed}
-
-both : (a b : Bool) → (a && b) ≡ true → (a ≡ true) × (b ≡ true)
-both true b e = (refl, e)
-both false b e = let z : _≡_ {A = ℕ} 0 1 = cc in absurd (omega arith)
 
 -- the setting before field j
 abbrev pub beforeAt : List ℕ → ℕ → ℕ → List ℕ → ℕ → ℕ

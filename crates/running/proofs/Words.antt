@@ -13,6 +13,7 @@ use mir.Val.{SFits, toZ}
 use mir.Facts.{toZ-pos, sfits-widen}
 use Rattle.block.specs.Kinds.{wordPin, allowed, excepted, wordRef}
 use Rattle.block.proofs.References.{word-cases, allowed-below}
+use Rattle.wire.proofs.Choice.{both}
 use Rattle.running.specs.Running.{wordIn}
 
 fits-by : (n k : ℕ) (t : Bool) → ltb n k ≡ t → k ≤ n + 32768 → n ≤ k + 32767 → SFits w16 (cond t (negsuc (k - suc n)) (pos (n - k)))
@@ -47,14 +48,10 @@ pub word-high : (l : List ℤ) (r : ℕ) → 208 ≤ r → subℕ r 33768 ≡ wo
 word-high l r h = word-cases (λ w. subℕ r 33768 ≡ wordIn l w) r (λ a. absurd (omega arith)) (λ a b. absurd (omega arith)) (λ a. refl)
 
 -- which is 1,000 or more
-past : (a b : Bool) → (a && b) ≡ true → b ≡ true
-past true b e = e
-past false b e = let z : _≡_ {A = ℕ} 0 1 = cc in absurd (omega arith)
-
 pub word-constant : (r : ℕ) → allowed wordPin 0 r ≡ true → 208 ≤ r → (1000 ≤ r) × (r < 66536)
 unfolding allowed excepted
 word-constant r e h =
-    let g : (leb 208 r && ltb r 1000) ≡ false = not-true (leb 208 r && ltb r 1000) (past (ltb r 66536) _ e) in
+    let g : (leb 208 r && ltb r 1000) ≡ false = not-true (leb 208 r && ltb r 1000) (both (ltb r 66536) _ e .1) in
     (ltb-false r 1000 (rw (le-leb 208 r h) at g), allowed-below wordPin 0 r e)
 
 -- a setting that is not carried as 32,768 is not 0

@@ -1,22 +1,18 @@
 -- `hall::take` meets its contract: a good state holds at most 32 entries, as the journal's take requires.
-use Prim.Native.Nat.{ℕ, _≤_}
-use mathlib.Core.Bool.{Bool, true, false, _&&_}
-use mathlib.Core.Path.{_≡_, refl, sym, ap, _∙_}
-use native.Mathlib.Omega.{arith}
+use Prim.Native.Nat.{_≤_}
+use mathlib.Core.Bool.{true}
+use mathlib.Core.Path.{_≡_, sym, ap, _∙_}
 use borrow.Author.Needs.{needs}
 use borrow.Author.Tests.{leb-true, not-true, not-false}
 use lib.Dec.{leb}
 use Rattle.journal.specs.Journal.{goodJournal}
 use Rattle.wire.specs.Choice.{every}
+use Rattle.wire.proofs.Choice.{both}
 use Rattle.hall.specs.Calls.{takeOf, handedBy}
 use Rattle.hall.specs.State.{goodPlace, goodState}
 use Rattle.hall.specs.declared.State.{State}
 use Rattle.hall.proofs.take.Statement.{statement}
 use Rattle.hall.proofs.take.Tie as tie
-
-both : (a b : Bool) → (a && b) ≡ true → (a ≡ true) × (b ≡ true)
-both true b e = (refl, e)
-both false b e = let z : _≡_ {A = ℕ} 0 1 = cc in absurd (omega arith)
 
 -- a good state holds at most 32 entries
 held-few : (s : State) → goodState s ≡ true → s .journal .held ≤ 32
