@@ -1,4 +1,4 @@
--- The lists that references read from: how long they are, how a walk grows them, and what one new place changes in them.
+-- The lists that references read from: how a walk grows them, and what one new place changes in them.
 use mathlib.Core.Path.{_≡_, refl, ap, _∙_}
 use mathlib.Core.List.{List, [], _∷_, _++_, map, map-append, append-assoc}
 use mathlib.Core.Bool.{Bool, true, false}
@@ -8,7 +8,7 @@ use native.Mathlib.Numerals.{add-one}
 use native.Mathlib.Omega.{arith}
 use lib.Dec.{eqb}
 use lib.IntN.{ℤ}
-use lib.ListN.{length, getD, take, set, length-append, length-map}
+use lib.ListN.{length, getD, take, set}
 use lib.Seq.{take-suc, take-suc-set}
 use Rattle.rules.specs.declared.Place.{Place}
 use Rattle.hall.specs.Answers.{inputsFrom, outOf, wordOfPlace, bitsOf, wordsOf}
@@ -39,14 +39,6 @@ pub inputs-length : (n k bits : ℕ) → length (inputsFrom n k bits) ≡ n
 unfolding inputsFrom
 inputs-length zero k bits = refl
 inputs-length (suc n) k bits = ap suc (inputs-length n (suc k) bits)
-
-pub bits-length : (bits : ℕ) (ps : List Place) → length (bitsOf bits ps) ≡ 34 + length ps
-unfolding bitsOf
-bits-length bits ps = simp (length-append, length-map) (omega (arith, inputs-length 32 0 bits))
-
-pub words-length : (words : List ℤ) (ps : List Place) → length (wordsOf words ps) ≡ length words + length ps
-unfolding wordsOf
-words-length words ps = simp (length-append, length-map)
 
 -- a new place at i is a new value at the bit reference i + 34
 pub bits-set : (bits : ℕ) (ps : List Place) (i : ℕ) (q : Place) → set (bitsOf bits ps) (i + 34) (q .out) ≡ bitsOf bits (set ps i q)

@@ -1,14 +1,14 @@
 -- What the functions below the calls answer.
 use mathlib.Core.Bool.{Bool, true, false}
 use mathlib.Core.List.{List, [], _∷_, _++_, map}
-use Prim.Native.Nat.{ℕ, zero, suc, _/_, _%_, _^_}
-use lib.Dec.{eqb}
+use Prim.Native.Nat.{ℕ, zero, suc}
 use lib.IntN.{ℤ}
 use lib.ListN.{length}
 use Rattle.block.specs.Blocks.{Bit, Block}
 use Rattle.block.specs.Reading.{Read, got, fault}
 use Rattle.rules.specs.declared.Place.{Place}
 use Rattle.rules.specs.Rules.{packed}
+use Rattle.journal.specs.Journal.{bitOf}
 use Rattle.hall.specs.declared.State.{State}
 use Rattle.hall.specs.declared.Ran.{Ran}
 use Rattle.hall.specs.Calls.{late}
@@ -25,7 +25,7 @@ lateBy e s = late (inputs e 0 []) s
 -- the input bits from bit i on, n of them
 unfoldable pub inputsFrom : ℕ → ℕ → ℕ → List Bool
 inputsFrom zero i bits = []
-inputsFrom (suc n) i bits = eqb (bits / 2 ^ i % 2) 1 ∷ inputsFrom n (suc i) bits
+inputsFrom (suc n) i bits = bitOf bits i ∷ inputsFrom n (suc i) bits
 
 abbrev pub outOf : Place → Bool
 outOf p = p .out

@@ -1,14 +1,14 @@
 -- Document 01, "One scan".
 use mathlib.Core.Bool.{Bool, true, false}
 use mathlib.Core.List.{List, [], map}
-use Prim.Native.Nat.{ℕ, zero, suc, _+_, _/_, _%_, _^_}
-use lib.IntN.{ℤ, pos, _-ℤ_}
+use Prim.Native.Nat.{ℕ, zero, suc, _+_}
+use lib.IntN.{ℤ, pos}
 use lib.ListN.{getD, set}
-use lib.Dec.{eqb}
 use Rattle.block.specs.Blocks.{Bit, off, on, input, output, Word, analog, wordOf, constant, Block}
 use Rattle.rules.specs.declared.Place.{Place}
 use Rattle.rules.specs.Rules.{freshPlace, packed}
-use Rattle.running.specs.Running.{ruled, stepsOf}
+use Rattle.running.specs.Running.{constantOf, ruled, stepsOf}
+use Rattle.journal.specs.Journal.{bitOf}
 
 -- "a 16-bit elapsed, one 32-bit number, an array of eight 16-bit words"
 pub record Inputs : Type 0 where
@@ -17,7 +17,7 @@ pub record Inputs : Type 0 where
   pub words : List ℤ
 
 abbrev pub inputBit : Inputs → ℕ → Bool
-inputBit x i = eqb (x .bits / 2 ^ i % 2) 1
+inputBit x i = bitOf (x .bits) i
 
 abbrev pub placeOf : List Place → ℕ → Place
 placeOf ps k = getD ps k freshPlace
@@ -29,11 +29,10 @@ readBit x ps on = true
 readBit x ps (input i) = inputBit x i
 readBit x ps (output k) = placeOf ps k .out
 
--- "the constant (value − 33,768)"
 abbrev pub readWord : Inputs → List Place → Word → ℤ
 readWord x ps (analog i) = getD (x .words) i (pos 0)
 readWord x ps (wordOf k) = placeOf ps k .word
-readWord x ps (constant n) = pos n -ℤ pos 33768
+readWord x ps (constant n) = constantOf n
 
 abbrev pub blockOf : List Block → ℕ → Block
 blockOf bs i = getD bs i (record { kind = 0; fields = [] })

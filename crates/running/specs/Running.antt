@@ -31,6 +31,10 @@ wordOfField g (tree t) = pos 0
 abbrev pub signed : ℕ → ℤ
 signed n = pos n -ℤ pos 32768
 
+-- "the constant (value − 33,768)"
+abbrev pub constantOf : ℕ → ℤ
+constantOf n = pos n -ℤ pos 33768
+
 -- A rule for each kind, from the values at its fields, by their place in the row, the elapsed ticks and the old place to the new one.
 abbrev pub Rule : Type 0
 Rule = (ℕ → Bool) → (ℕ → ℤ) → (ℕ → ℕ) → ℕ → Place → Place
@@ -88,8 +92,7 @@ stepsOf f (number n ∷ cs) = 1
 stepsOf f (tree t ∷ cs) = steps f t
 
 -- A list that has at each number below 208 what the word reference of that number reads as (ours): 8 analog words, 200 words.
--- "the constant (value − 33,768)"
 abbrev pub wordIn : List ℤ → Word → ℤ
 wordIn l (analog i) = getD l i (pos 0)
 wordIn l (wordOf k) = getD l (k + 8) (pos 0)
-wordIn l (constant n) = pos n -ℤ pos 33768
+wordIn l (constant n) = constantOf n

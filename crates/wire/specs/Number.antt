@@ -39,6 +39,3 @@ numberAt s at = groupsAt 3 0 s at
 unfoldable pub groupsOf : ℕ → ℕ → List ℕ
 groupsOf zero v = []
 groupsOf (suc k) v = pick (ltb v 128) (v ∷ []) ((128 + v % 128) ∷ groupsOf k (v / 128))
-
-unfoldable pub written : ℕ → List ℕ
-written v = groupsOf 3 v
