@@ -1,0 +1,328 @@
+/* Runs the examples of document 01 on the controller, then odd content. */
+#include <stdio.h>
+#include <string.h>
+
+#include "controller.h"
+
+static int failures;
+
+#define CHECK(name, holds) check((name), (holds), #holds, __LINE__)
+
+static void check(const char *name, bool holds, const char *text, int line)
+{
+    if (holds)
+        return;
+    printf("%s: line %d: %s\n", name, line, text);
+    failures++;
+}
+
+static const int16_t NO_WORDS[ORACLE_ANALOGS];
+
+/* A program under construction. */
+typedef struct {
+    uint8_t bytes[16384];
+    size_t length;
+} program;
+
+static void put(program *p, uint32_t value)
+{
+    for (; value >= 0x80; value >>= 7)
+        p->bytes[p->length++] = (uint8_t)(value | 0x80);
+    p->bytes[p->length++] = (uint8_t)value;
+}
+
+static void put_all(program *p, const uint32_t *values, size_t count)
+{
+    while (count-- > 0)
+        put(p, *values++);
+}
+
+#define PUT(p, ...) \
+    put_all((p), (const uint32_t[]){__VA_ARGS__}, \
+            sizeof((const uint32_t[]){__VA_ARGS__}) / sizeof(uint32_t))
+
+/* A full tree of ANDs over on, of 2^levels - 1 nodes. */
+static void put_tree(program *p, unsigned levels)
+{
+    if (levels == 1) {
+        put(p, 7);
+        return;
+    }
+    put(p, 1);
+    put_tree(p, levels - 1);
+    put_tree(p, levels - 1);
+}
+
+/* A count of 70 blocks, then 68 BL of 63 nodes and one UD. */
+static void put_large(program *p)
+{
+    unsigned i;
+
+    put(p, 70);
+    for (i = 0; i < 68; i++) {
+        put(p, 0);
+        put_tree(p, 6);
+    }
+    PUT(p, 8, 2, 3, 4, 5, 32768);
+}
+
+static bool refused(const uint8_t *bytes, size_t length, unsigned refusal, size_t place)
+{
+    oracle_acceptance a = oracle_accept(bytes, length);
+    oracle_state state, before;
+    oracle_answer s;
+
+    oracle_fresh(&state);
+    before = state;
+    s = oracle_scan(bytes, length, &state, 1, 0, NO_WORDS);
+    return a.refusal == refusal && a.place == place && a.memory == 0
+        && a.steps == 0 && s.refusal == refusal && s.place == place
+        && s.alarms == 0 && s.steps == 0 && s.rises == 0
+        && memcmp(&state, &before, sizeof state) == 0;
+}
+
+static void test_acceptance(void)
+{
+    static const uint8_t p1[] = {0x01, 0x07, 0x02, 0x00, 0x02, 0x01, 0x22, 0x00};
+    static const uint8_t p3[] = {0x00};
+    static const uint8_t p4[] = {0x81, 0x00};
+    static const uint8_t p6[] = {0x01, 0x07, 0x02, 0x00, 0x02, 0x01, 0x23};
+    static const uint8_t many[] = {0xC9, 0x01};
+    oracle_acceptance a = oracle_accept(p1, 7);
+
+    CHECK("P1", a.refusal == 0 && a.place == 0 && a.memory == 16 && a.steps == 1);
+    CHECK("P2", refused(NULL, 0, 1, 0));
+    CHECK("P3", refused(p3, 1, 2, 0));
+    CHECK("P4", refused(p4, 2, 1, 0));
+    CHECK("P5", refused(p1, 8, 2, 7));
+    CHECK("P6", refused(p6, 7, 3, 6));
+    CHECK("P7", refused(p1, 6, 1, 6));
+    CHECK("C9 01", refused(many, 2, 2, 0));
+}
+
+static void test_memory(void)
+{
+    static program p;
+    oracle_acceptance a;
+
+    p.length = 0;
+    put_large(&p);
+    PUT(&p, 1, 2, 3, 0, 0);
+    a = oracle_accept(p.bytes, p.length);
+    CHECK("memory 5000", a.refusal == 0 && a.memory == 5000);
+    CHECK("memory 5000", a.steps == 68 * 63 + 2);
+
+    p.length = 0;
+    put_large(&p);
+    PUT(&p, 0, 1, 1, 7, 7, 7, 0);
+    CHECK("memory 5001", refused(p.bytes, p.length, 4, 0));
+}
+
+static void test_kinds(void)
+{
+    static const bool p9[] = {false, false, true, true};
+    static const bool p10[] = {true, false, false, true};
+    static const bool p13[] = {true, true, false, false};
+    static const int16_t p13_x[] = {10, 4, 3, 9};
+    static program p;
+    oracle_state state;
+    oracle_answer s;
+    unsigned i;
+
+    p.length = 0;
+    PUT(&p, 1, 0, 1, 6, 3, 7, 7, 0);
+    oracle_fresh(&state);
+    s = oracle_scan(p.bytes, p.length, &state, 1, 0, NO_WORDS);
+    CHECK("P8", s.refusal == 0 && s.steps == 2 && !state.places[0].output);
+
+    p.length = 0;
+    PUT(&p, 1, 4, 1, 0, 0, 50, 50, 0);
+    oracle_fresh(&state);
+    for (i = 0; i < 4; i++) {
+        oracle_scan(p.bytes, p.length, &state, 20, 0, NO_WORDS);
+        CHECK("P9", state.places[0].output == p9[i]);
+    }
+
+    p.length = 0;
+    PUT(&p, 1, 6, 1, 0, 3, 2, 0);
+    oracle_fresh(&state);
+    for (i = 0; i < 4; i++) {
+        oracle_scan(p.bytes, p.length, &state, 4, 0, NO_WORDS);
+        CHECK("P10", state.places[0].output == p10[i]);
+    }
+
+    p.length = 0;
+    PUT(&p, 1, 10, 1, 32768 - 7, 32768 + 2, 32768, 33768 + 1, 0);
+    oracle_fresh(&state);
+    oracle_scan(p.bytes, p.length, &state, 1, 0, NO_WORDS);
+    CHECK("P11", state.places[0].word == -3 && !state.places[0].output);
+
+    p.length = 0;
+    PUT(&p, 1, 8, 2, 3, 0, 0, 32768, 0);
+    oracle_fresh(&state);
+    state.places[0].word = 32767;
+    oracle_scan(p.bytes, p.length, &state, 1, 3, NO_WORDS);
+    CHECK("P12", state.places[0].word == 32767 && state.places[0].output);
+
+    p.length = 0;
+    PUT(&p, 1, 12, 1, 0, 33768 + 10, 33768 + 4, 0);
+    oracle_fresh(&state);
+    for (i = 0; i < 4; i++) {
+        int16_t words[ORACLE_ANALOGS] = {0};
+
+        words[0] = p13_x[i];
+        oracle_scan(p.bytes, p.length, &state, 1, 0, words);
+        CHECK("P13", state.places[0].output == p13[i]);
+    }
+}
+
+/* All 32 alarms on, off, on; one take, off, on. */
+static void test_journal(void)
+{
+    static program p;
+    oracle_state state, before;
+    oracle_answer s;
+    oracle_taken t;
+    unsigned i;
+
+    p.length = 0;
+    PUT(&p, 1, 0, 6, 32);
+    for (i = 0; i < 32; i++)
+        put(&p, 2 + i);
+    oracle_fresh(&state);
+    before = state;
+    t = oracle_take(&state);
+    CHECK("journal", t.refusal == 0 && !t.found && t.entry.time == 0);
+    CHECK("journal", memcmp(&state, &before, sizeof state) == 0);
+
+    s = oracle_scan(p.bytes, p.length, &state, 5, UINT32_MAX, NO_WORDS);
+    CHECK("journal", s.rises == 32 && s.alarms == UINT32_MAX);
+    oracle_scan(p.bytes, p.length, &state, 5, 0, NO_WORDS);
+    oracle_scan(p.bytes, p.length, &state, 5, UINT32_MAX, NO_WORDS);
+    CHECK("journal", state.journal.held == 32 && state.journal.missed == 32);
+    t = oracle_take(&state);
+    CHECK("journal", t.found && t.entry.number == 0 && t.entry.time == 5);
+    CHECK("journal", state.journal.held == 31);
+    CHECK("journal", state.journal.entries[0].number == 1);
+    CHECK("journal", state.journal.entries[31].time == 0);
+    oracle_scan(p.bytes, p.length, &state, 5, 0, NO_WORDS);
+    oracle_scan(p.bytes, p.length, &state, 5, UINT32_MAX, NO_WORDS);
+    CHECK("journal", state.journal.held == 32 && state.journal.missed == 63);
+    CHECK("journal", state.journal.entries[31].number == 0);
+    CHECK("journal", state.journal.entries[31].time == 25);
+}
+
+/* Both calls refuse this state so and leave it as it is. */
+static bool state_refused(oracle_state *state, unsigned refusal)
+{
+    static const uint8_t p1[] = {0x01, 0x07, 0x02, 0x00, 0x02, 0x01, 0x22};
+    oracle_state before = *state;
+    oracle_answer s = oracle_scan(p1, sizeof p1, state, 1, 1, NO_WORDS);
+    bool good = s.refusal == refusal && s.place == 0 && s.alarms == 0
+        && s.steps == 0 && s.rises == 0;
+
+    if (refusal == ORACLE_BAD_STATE) {
+        oracle_taken t = oracle_take(state);
+
+        good = good && t.refusal == refusal && !t.found
+            && t.entry.number == 0 && t.entry.time == 0;
+    }
+    return good && memcmp(state, &before, sizeof before) == 0;
+}
+
+static void test_states(void)
+{
+    oracle_state state;
+
+    oracle_fresh(&state);
+    state.places[199].ticks = 6553400;
+    CHECK("ticks", state_refused(&state, 5));
+    oracle_fresh(&state);
+    state.places[199].pins = 16;
+    CHECK("pins", state_refused(&state, 5));
+    oracle_fresh(&state);
+    state.journal.held = 33;
+    CHECK("held", state_refused(&state, 5));
+    state.journal.held = UINT64_MAX;
+    CHECK("held", state_refused(&state, 5));
+    state.journal.held = 1;
+    state.journal.entries[0].number = 32;
+    CHECK("entry", state_refused(&state, 5));
+    state.journal.entries[0].number = 31;
+    state.journal.entries[1].time = 1;
+    CHECK("entry beyond", state_refused(&state, 5));
+    oracle_fresh(&state);
+    state.time = UINT64_MAX;
+    CHECK("time", state_refused(&state, 6));
+    state.time = 0;
+    state.journal.missed = UINT64_MAX - 31;
+    CHECK("missed", state_refused(&state, 6));
+    state.journal.held = 33;
+    CHECK("5 before 6", state_refused(&state, 5));
+}
+
+static uint64_t random_state = 1;
+
+static uint64_t random_number(void)
+{
+    uint64_t z = random_state += 0x9E3779B97F4A7C15u;
+
+    z = (z ^ z >> 30) * 0xBF58476D1CE4E5B9u;
+    z = (z ^ z >> 27) * 0x94D049BB133111EBu;
+    return z ^ z >> 31;
+}
+
+/* Content nobody checked: a refusal leaves the state, an answer keeps it good. */
+static void test_any_content(void)
+{
+    static uint8_t bytes[64];
+    oracle_state state, before;
+    unsigned round, i;
+
+    for (round = 0; round < 200000; round++) {
+        size_t length = random_number() % sizeof bytes;
+        oracle_answer s;
+        oracle_taken t;
+
+        for (i = 0; i < length; i++)
+            bytes[i] = (uint8_t)(random_number() % (round % 2 ? 256 : 40));
+        if (length > 0 && round % 4)
+            bytes[0] = (uint8_t)(1 + round % 3);
+        oracle_fresh(&state);
+        for (i = 0; i < 4; i++) {
+            state.places[i].pins = (uint8_t)(random_number() % 17);
+            state.places[i].ticks = (uint32_t)(random_number() % 6553410);
+            state.places[i].word = (int16_t)(random_number() % 65536 - 32768);
+            state.places[i].output = random_number() & 1;
+        }
+        state.journal.held = random_number() % 3;
+        state.journal.entries[0].time = random_number() & 1;
+        state.journal.entries[1].number = (uint8_t)(random_number() % 34);
+        state.time = random_number() | (round % 8 ? 0 : UINT64_MAX - 9);
+        before = state;
+        s = oracle_scan(bytes, length, &state, (uint16_t)random_number(),
+                        (uint32_t)random_number(), NO_WORDS);
+        if (s.refusal != 0) {
+            CHECK("refused", memcmp(&state, &before, sizeof state) == 0);
+            CHECK("refused", s.alarms == 0 && s.steps == 0 && s.rises == 0);
+        }
+        before = state;
+        t = oracle_take(&state);
+        CHECK("take", s.refusal != 0 || t.refusal == 0);
+        if (!t.found)
+            CHECK("take", memcmp(&state, &before, sizeof state) == 0);
+    }
+}
+
+int main(void)
+{
+    test_acceptance();
+    test_memory();
+    test_kinds();
+    test_journal();
+    test_states();
+    test_any_content();
+    if (failures == 0)
+        puts("all examples hold");
+    return failures != 0;
+}
