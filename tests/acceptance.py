@@ -1,14 +1,8 @@
-#!/usr/bin/env python3
-"""Cases of acceptance, and what document 01 says of each.
+"""Acceptance as document 01 says it, and programs to try it on. controller.py, beside it, writes the cases.
 
-Run from anywhere: it writes crates/accept_cases/data/*, args and stdout anew. It is a reading of document 01
-of its own, made from the paper and not from the Rattle code, and knows nothing of how that is written.
-A case is a line: a name, a space, and the program's bytes in hex.
+It is a reading of document 01 of its own, made from the paper and not from the Rattle code, and knows nothing of how
+that is written. A group of cases gives names with programs.
 """
-import os
-
-HERE = os.path.dirname(os.path.abspath(__file__))
-CRATE = os.path.join(HERE, "..", "crates", "accept_cases")
 
 # ---- document 01, "Program bytes" and "Numbers of refusal"
 
@@ -331,27 +325,4 @@ def order():
     yield "heaviest", program([block(0, expr(*chain(1, 63)))] * 200)
 
 
-FILES = [examples, prefixes, replaced, numbers, expressions, fields, references, order]
-
-
-def told(data):
-    refusal, place, memory, steps = accept(data)
-    return f"refused {refusal} at {place}" if refusal else f"memory {memory} steps {steps}"
-
-
-def main():
-    lines = []
-    for make in FILES:
-        cases = list(make())
-        with open(os.path.join(CRATE, "data", make.__name__), "w") as h:
-            h.writelines(f"{name} {data.hex().upper()}\n" for name, data in cases)
-        lines.append(f"== {make.__name__}")
-        lines += [f"{name} {told(data)}" for name, data in cases]
-    with open(os.path.join(CRATE, "args"), "w") as h:
-        h.writelines(make.__name__ + "\n" for make in FILES)
-    with open(os.path.join(CRATE, "stdout"), "w") as h:
-        h.write("\n".join(lines) + "\n")
-
-
-if __name__ == "__main__":
-    main()
+GROUPS = [examples, prefixes, replaced, numbers, expressions, fields, references, order]

@@ -1,0 +1,2 @@
+-- The laws that the proof of `hall_cases::distance` cites.
+pub mod Signs

@@ -1,2 +1,0 @@
--- The laws that the proof of `text::distance` cites.
-pub mod Signs
