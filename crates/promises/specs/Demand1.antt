@@ -1,0 +1,76 @@
+-- "Any call, any content": every call answers, or refuses by the table of refusals, and no refusal is given otherwise. That it ends is proved of
+-- every function by Rattle itself. For each call the rows below exclude one another, so each says exactly when its answer is given.
+use mathlib.Core.Bool.{Bool, true, false}
+use mathlib.Core.List.{List}
+use mathlib.Core.Path.{_≡_}
+use Prim.Native.Nat.{ℕ, _+_, _-_, _^_, _<_, _≤_}
+use lib.ListN.{length}
+use Rattle.block.specs.Refusals.{outside, astray, overMemory}
+use Rattle.block.specs.Reading.{got, fault}
+use Rattle.program.specs.declared.Acceptance.{Acceptance}
+use Rattle.program.specs.Program.{Program, programAt, memory, figure}
+use Rattle.program.specs.Acceptance.{refused, taken, everyBlock, knownOf, accepted}
+use Rattle.program.specs.Places.{Placed}
+use Rattle.program.specs.References.{allThere}
+use Rattle.journal.specs.Journal.{zeroEntry}
+use Rattle.journal.specs.Journal.{taken as takenFrom}
+use Rattle.hall.specs.declared.State.{State}
+use Rattle.hall.specs.declared.Scanned.{Scanned}
+use Rattle.hall.specs.declared.Handed.{Handed}
+use Rattle.hall.specs.State.{goodState}
+use Rattle.hall.specs.Scan.{Inputs}
+use Rattle.hall.specs.Calls.{badState, tooFar, answered, scanOf, handedBy, takeOf}
+
+-- acceptance of a program
+pub data Accepting (s : List ℕ) (a : Acceptance) : Type 0 where
+  -- 1 and 2, "the first fault in reading order": the first reading, which lets every reference through, stops there
+  stops : (n at : ℕ) → programAt everyBlock s ≡ fault n at → n ≤ outside → Placed everyBlock s n at → a ≡ refused n at → Accepting s a
+  -- 3, "first in reading order": the program was read, and has a reference that is astray
+  strays :
+      (p : Program) (end at : ℕ) → programAt everyBlock s ≡ got p end → allThere p ≡ false →
+      programAt (knownOf (p .blocks)) s ≡ fault astray at → Placed (knownOf (p .blocks)) s astray at → a ≡ refused astray at → Accepting s a
+  -- 4, at place 0
+  overflows :
+      (p : Program) (end : ℕ) → programAt everyBlock s ≡ got p end → allThere p ≡ true →
+      5000 < memory (p .blocks) → a ≡ refused overMemory 0 → Accepting s a
+  -- none of these
+  passes :
+      (p : Program) (end : ℕ) → programAt everyBlock s ≡ got p end → allThere p ≡ true →
+      memory (p .blocks) ≤ 5000 → a ≡ taken (memory (p .blocks)) (figure (p .blocks)) → Accepting s a
+
+-- "A refusal gives back the given state and zeros for alarm word, steps, rises and entry."
+pub record RefusedScan (s : State) (n at : ℕ) (a : Scanned) : Type 0 where
+  pub state : a .state ≡ s
+  pub refusal : a .refusal ≡ n
+  pub place : a .place ≡ at
+  pub alarms : a .alarms ≡ 0
+  pub steps : a .steps ≡ 0
+  pub rises : a .rises ≡ 0
+
+pub record RefusedTake (s : State) (n : ℕ) (a : Handed) : Type 0 where
+  pub state : a .state ≡ s
+  pub refusal : a .refusal ≡ n
+  pub found : a .found ≡ false
+  pub entry : a .entry ≡ zeroEntry
+
+-- a scan: the program's own refusals come first, "then 4, 5, 6", at place 0
+pub data Scanning (bytes : List ℕ) (x : Inputs) (s : State) (a : Scanned) : Type 0 where
+  refuses-program :
+      0 < accepted bytes .refusal → RefusedScan s (accepted bytes .refusal) (accepted bytes .place) a → Scanning bytes x s a
+  refuses-state : accepted bytes .refusal ≡ 0 → goodState s ≡ false → RefusedScan s badState 0 a → Scanning bytes x s a
+  refuses-time : accepted bytes .refusal ≡ 0 → goodState s ≡ true → 2 ^ 64 - 1 < s .time + x .elapsed → RefusedScan s tooFar 0 a → Scanning bytes x s a
+  refuses-missed :
+      accepted bytes .refusal ≡ 0 → goodState s ≡ true → 2 ^ 64 - 33 < s .journal .missed → RefusedScan s tooFar 0 a → Scanning bytes x s a
+  answers :
+      (p : Program) (end : ℕ) → accepted bytes .refusal ≡ 0 → goodState s ≡ true → s .time + x .elapsed ≤ 2 ^ 64 - 1 →
+      s .journal .missed ≤ 2 ^ 64 - 33 → programAt everyBlock bytes ≡ got p end → a ≡ answered p x s → Scanning bytes x s a
+
+-- a take
+pub data Taking (s : State) (a : Handed) : Type 0 where
+  refuses : goodState s ≡ false → RefusedTake s badState a → Taking s a
+  hands : goodState s ≡ true → a ≡ handedBy s (takenFrom (s .journal)) → Taking s a
+
+pub record Demand1 : Type 0 where
+  pub accepting : (bytes : List ℕ) → Accepting bytes (accepted bytes)
+  pub scanning : (bytes : List ℕ) (x : Inputs) (s : State) → Scanning bytes x s (scanOf bytes x s)
+  pub taking : (s : State) → Taking s (takeOf s)
