@@ -1,0 +1,210 @@
+-- The controller and what the rules say of a history go in step: each answered call takes both on, a refused one neither. Assumes nothing.
+use mathlib.Core.Path.{_≡_, refl, sym, ap, ap₂, subst, _∙_}
+use mathlib.Core.Bool.{Bool, true, false}
+use mathlib.Core.List.{List, [], _∷_, _++_, map, append-assoc, append-nil}
+use Prim.Native.Nat.{ℕ, zero, suc, _+_, _≤_, _<_}
+use native.Mathlib.Omega.{arith}
+use borrow.Author.Tests.{eq-eqb, ne-eqb}
+use lib.Dec.{eqb}
+use lib.ListN.{length, length-append, length-map, length-replicate}
+use Rattle.wire.specs.Choice.{pick}
+use Rattle.block.specs.Blocks.{Bit}
+use Rattle.block.specs.Reading.{Read, got, fault}
+use Rattle.program.specs.Program.{Program, programAt, figure}
+use Rattle.program.specs.Acceptance.{everyBlock, accepted}
+use Rattle.program.proofs.Faults.{Good, good, accepted-good}
+use Rattle.rules.specs.declared.Place.{Place}
+use Rattle.rules.specs.Rules.{packed}
+use Rattle.journal.specs.declared.Entry.{Entry}
+use Rattle.journal.specs.declared.Stamp.{Stamp}
+use Rattle.journal.specs.declared.Journal.{Journal}
+use Rattle.journal.specs.Journal.{entryOf, freshJournal, risesIn, storedAll, risen, taken}
+use Rattle.hall.specs.declared.State.{State}
+use Rattle.hall.specs.declared.Scanned.{Scanned}
+use Rattle.hall.specs.declared.Handed.{Handed}
+use Rattle.hall.specs.State.{freshState, goodState}
+use Rattle.hall.specs.Scan.{Inputs, readBit, scanTo, stepsTo, alarmWord}
+use Rattle.hall.specs.Calls.{answered, scanOf, handedBy, takeOf}
+use Rattle.hall.proofs.Programs.{steps-bounded}
+use Rattle.promises.specs.History.{Call, scan, take, refusalOf, stateOf, stateAfter, entriesOf, handedOut, answeredOf, Ledger, enteredAll, Past, freshPast, risesAt, placesThen, bitsThen, risesThen, pastScan, pastTake, pastCall, pastAfter, programIn, programOf}
+use Rattle.promises.specs.Demand1.{RefusedScan, Scanning, refuses-program, refuses-state, refuses-time, refuses-missed, answers, Taking, refuses, hands}
+use Rattle.promises.specs.Demand2.{ByTheRules, Demand2, EveryRun}
+use Rattle.promises.specs.Demand3.{held, Demand3, EveryHistory}
+use Rattle.promises.specs.Closure.{Closure}
+use Rattle.promises.proofs.Programs.{alarms-few}
+use Rattle.promises.proofs.Refusals.{scan-row, take-row}
+use Rattle.promises.proofs.Rises.{rises-from}
+use Rattle.promises.proofs.Ledgers.{Keeps, kept-long, held-long, enters-all, inAll, all-more, crossed-same, Hands, hands as hands-over}
+
+-- a state, what the rules know, and what was handed out, after the same history
+pub record InStep (s : State) (m : Past) (out : List Entry) : Type 0 where
+  pub good : goodState s ≡ true
+  pub places : s .places ≡ m .places
+  pub time : s .time ≡ m .time
+  pub alarms : s .alarms ≡ packed (m .bits)
+  pub keeps : Keeps (s .journal) (m .ledger) out
+  pub counted : length (m .rises) ≡ inAll (m .ledger)
+
+-- ---- an answered scan
+
+module _ (p : Program) (few : length (p .alarms) ≤ 32) (x : Inputs) {s : State} {m : Past} {out : List Entry} (i : InStep s m out) where
+  -- the alarm word is that of the bits that the alarms name
+  same-places : scanTo x (p .blocks) (length (p .blocks)) (s .places) ≡ placesThen p x m
+  same-places = ap (scanTo x (p .blocks) (length (p .blocks))) (i .places)
+
+  same-word : alarmWord x (scanTo x (p .blocks) (length (p .blocks)) (s .places)) (p .alarms) ≡ packed (bitsThen p x m)
+  unfolding alarmWord
+  same-word = rw (i .places)
+
+  -- and the rises that the journal sees in it are those of the bits
+  same-rises : risesIn (packed (bitsThen p x m)) (s .alarms) ≡ risesAt 0 (m .bits) (bitsThen p x m)
+  same-rises =
+      ap (risesIn (packed (bitsThen p x m))) (i .alarms)
+      ∙ rises-from (m .bits) (bitsThen p x m) 32 0 (omega (arith, few, length-map (p .alarms) (readBit x (placesThen p x m))))
+
+  pub scanned-on : goodState (answered p x s .state) ≡ true → InStep (answered p x s .state) (pastScan p x m) out
+  unfolding answered risen pastScan
+  scanned-on g =
+      record {
+        good = g;
+        places = same-places;
+        time = ap (λ (t : ℕ). t + x .elapsed) (i .time);
+        alarms = same-word;
+        keeps =
+            rw (same-word, same-rises, i .time)
+            (enters-all (i .keeps) (record { time = m .time + x .elapsed }) (risesAt 0 (m .bits) (bitsThen p x m)));
+        counted = length-append (m .rises) (risesThen p x m) ∙ omega (arith, i .counted, all-more (m .ledger) (risesThen p x m));
+      }
+
+  pub by-the-rules : (bytes : List ℕ) → accepted bytes .steps ≡ figure (p .blocks) → ByTheRules bytes p x m (answered p x s)
+  unfolding answered risen
+  by-the-rules bytes f =
+      record {
+        places = same-places;
+        time = ap (λ (t : ℕ). t + x .elapsed) (i .time);
+        alarms = same-word;
+        last = same-word;
+        steps = ap (stepsTo x (p .blocks) (length (p .blocks))) (i .places);
+        figure = rw f (steps-bounded x p s);
+        rises =
+            rw (same-word, same-rises)
+            (sym (length-map (risesAt 0 (m .bits) (bitsThen p x m)) (entryOf (record { time = m .time + x .elapsed }))));
+      }
+
+-- ---- any call
+
+-- a call that is answered is in the history, a refused one is not
+left-out : (p : Program) (m : Past) (c : Call) (b : Bool) (cs : List Call) → pastAfter p m (pick b (c ∷ cs) cs) ≡ pastAfter p (pick b (pastCall p m c) m) cs
+unfolding pastAfter
+left-out p m c true cs = refl
+left-out p m c false cs = refl
+
+module _ (closed : Closure) (bytes : List ℕ) where
+  -- what the rules know after a call
+  abbrev Then : State → Past → Call → Past
+  Then s m c = pick (eqb (refusalOf bytes s c) 0) (pastCall (programOf bytes) m c) m
+
+  module _ {s : State} {m : Past} {out : List Entry} (i : InStep s m out) where
+    -- after a scan, and after a take, whose answer is a
+    abbrev Scanned-on : Inputs → Scanned → Type 0
+    Scanned-on x a = InStep (a .state) (pick (eqb (a .refusal) 0) (pastScan (programOf bytes) x m) m) (out ++ [])
+
+    abbrev Taken-on : Handed → Type 0
+    Taken-on a = InStep (a .state) (pick (eqb (a .refusal) 0) (pastTake m) m) (out ++ pick (a .found) (a .entry ∷ []) [])
+
+    stays : (x : Inputs) {n at : ℕ} → 0 < n → RefusedScan s n at (scanOf bytes x s) → Scanned-on x (scanOf bytes x s)
+    stays x {n} h r = rw (r .state, r .refusal, ne-eqb n 0 (λ z. omega arith), append-nil out) i
+
+    scanned : (x : Inputs) → Scanning bytes x s (scanOf bytes x s) → Scanned-on x (scanOf bytes x s)
+    unfolding answered
+    scanned x (refuses-program h r) = stays x h r
+    scanned x (refuses-state ok g r) = stays x (omega arith) r
+    scanned x (refuses-time ok g t r) = stays x (omega arith) r
+    scanned x (refuses-missed ok g n r) = stays x (omega arith) r
+    scanned x (answers p end ok g t n read a) =
+        let few = alarms-few everyBlock bytes read in
+        subst (Scanned-on x) (sym a) (rw (read, append-nil out) (scanned-on p few x i (rw a at (closed .scan bytes x s (i .good)))))
+
+    took : Taking s (takeOf s) → Taken-on (takeOf s)
+    unfolding pastTake
+    took (refuses g r) = let w : _≡_ {A = ℕ} 0 1 = cc in absurd (omega arith)
+    took (hands g a) =
+        let h = hands-over (i .keeps) in
+        subst Taken-on (sym a)
+        (record {
+          good = rw a at (closed .take s (i .good));
+          places = i .places;
+          time = i .time;
+          alarms = i .alarms;
+          keeps = h .keeps;
+          counted = i .counted ∙ sym (crossed-same (m .ledger));
+        })
+
+    call-on : (c : Call) → InStep (stateOf bytes s c) (Then s m c) (out ++ entriesOf bytes s c)
+    call-on (scan x) = scanned x (scan-row bytes x s)
+    call-on take = took (take-row s)
+
+  calls-on : (cs : List Call) {s : State} {m : Past} {out : List Entry} → InStep s m out
+      → InStep (stateAfter bytes s cs) (pastAfter (programOf bytes) m (answeredOf bytes s cs)) (out ++ handedOut bytes s cs)
+  unfolding stateAfter pastAfter answeredOf handedOut
+  calls-on [] {out = out} i = rw (append-nil out) i
+  calls-on (c ∷ cs) {s} {m} {out} i =
+      let r = calls-on cs (call-on i c) in
+      rw (left-out (programOf bytes) m c (eqb (refusalOf bytes s c) 0) (answeredOf bytes (stateOf bytes s c) cs), ← append-assoc out (entriesOf bytes s c) (handedOut bytes (stateOf bytes s c) cs)) r
+
+  begin : InStep freshState freshPast []
+  unfolding freshState freshPast freshJournal
+  begin =
+      record {
+        good = closed .fresh;
+        places = refl;
+        time = refl;
+        alarms = refl;
+        keeps = record { long = refl; fit = omega arith; order = refl; taken = refl; missed = refl };
+        counted = refl;
+      }
+
+  -- ---- the demands
+
+  pub every-step : (cs : List Call) → InStep (stateAfter bytes freshState cs) (pastAfter (programOf bytes) freshPast (answeredOf bytes freshState cs)) (handedOut bytes freshState cs)
+  every-step cs = calls-on cs begin
+
+  next-scan : {s : State} {m : Past} {out : List Entry} → InStep s m out → (x : Inputs) → Scanning bytes x s (scanOf bytes x s) → scanOf bytes x s .refusal ≡ 0
+      → ByTheRules bytes (programOf bytes) x m (scanOf bytes x s)
+  next-scan i x (refuses-program h r) z = absurd (omega (arith, r .refusal))
+  next-scan i x (refuses-state ok g r) z = absurd (omega (arith, r .refusal))
+  next-scan i x (refuses-time ok g t r) z = absurd (omega (arith, r .refusal))
+  next-scan i x (refuses-missed ok g n r) z = absurd (omega (arith, r .refusal))
+  next-scan {s} {m} i x (answers p end ok g t n read a) z = rw (a, read) (go (accepted-good bytes ok))
+    where
+      go : Good bytes → ByTheRules bytes p x m (answered p x s)
+      go (good q e h f) =
+          let same : q ≡ p = same-got (sym h ∙ read) in
+          by-the-rules p (alarms-few everyBlock bytes read) x i bytes (f ∙ ap (λ (y : Program). figure (y .blocks)) same)
+        where
+          same-got : {a b : Program} {c d : ℕ} → got a c ≡ got b d → a ≡ b
+          same-got w = cc
+
+pub demand-two : Closure → EveryRun
+demand-two closed bytes cs =
+    let i = every-step closed bytes cs in
+    let s = stateAfter bytes freshState cs in
+    record { places = i .places; time = i .time; alarms = i .alarms; next = λ x. next-scan closed bytes i x (scan-row bytes x s) }
+
+what-is-held : {s : State} {m : Past} {out : List Entry} → InStep s m out → Taking s (takeOf s) → Demand3 out s m
+what-is-held i (refuses g r) = let w : _≡_ {A = ℕ} 0 1 = cc in absurd (omega arith)
+what-is-held i (hands g a) =
+    let k = i .keeps in
+    let h = hands-over k in
+    record {
+      counted = i .counted ∙ omega (arith, kept-long k, k .taken, k .missed);
+      order = k .order;
+      taken = k .taken;
+      places = held-long k;
+      missed = k .missed;
+      found = ap (λ (t : Handed). t .found) a ∙ h .found;
+      oldest = ap (λ (t : Handed). t .entry) a ∙ h .oldest;
+    }
+
+pub demand-three : Closure → EveryHistory
+demand-three closed bytes cs = what-is-held (every-step closed bytes cs) (take-row (stateAfter bytes freshState cs))

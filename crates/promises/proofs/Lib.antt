@@ -1,0 +1,5 @@
+pub mod Refusals
+pub mod Programs
+pub mod Rises
+pub mod Ledgers
+pub mod Histories

@@ -1,0 +1,60 @@
+-- Every scan and every take comes to a row of the table of refusals, or is answered. Assumes nothing.
+use mathlib.Core.Path.{_≡_, refl, sym, _∙_}
+use mathlib.Core.Bool.{Bool, true, false, not, _||_}
+use mathlib.Core.List.{List}
+use Prim.Native.Nat.{ℕ, _+_, _-_, _^_, _<_, _≤_}
+use native.Mathlib.Omega.{arith}
+use borrow.Author.Tests.{ltb-true, ltb-false, eqb-true, eqb-false}
+use lib.Dec.{ltb, eqb}
+use Rattle.block.specs.Reading.{Read, got, fault}
+use Rattle.program.specs.Program.{Program, programAt}
+use Rattle.program.specs.Acceptance.{everyBlock, accepted}
+use Rattle.program.proofs.Faults.{Good, good, accepted-good}
+use Rattle.hall.specs.declared.State.{State}
+use Rattle.hall.specs.State.{goodState}
+use Rattle.hall.specs.Scan.{Inputs}
+use Rattle.hall.specs.Calls.{refusedScan, refusedTake, late, scanOf, takeOf}
+use Rattle.promises.specs.Demand1.{RefusedScan, RefusedTake, Scanning, refuses-program, refuses-state, refuses-time, refuses-missed, answers, Taking, refuses, hands}
+
+refused-so : (s : State) (n at : ℕ) → RefusedScan s n at (refusedScan s n at)
+refused-so s n at = record { state = refl; refusal = refl; place = refl; alarms = refl; steps = refl; rises = refl }
+
+positive : {n : ℕ} → (n ≡ 0 → ⊥) → 0 < n
+positive h = omega arith
+
+module _ (bytes : List ℕ) (x : Inputs) (s : State) where
+  pub scan-row : Scanning bytes x s (scanOf bytes x s)
+  unfolding scanOf late
+  scan-row = by-program (eqb (accepted bytes .refusal) 0) refl
+    where
+      by-read : (ok : eqb (accepted bytes .refusal) 0 ≡ true) (g : goodState s ≡ true) → ltb (2 ^ 64 - 1) (s .time + x .elapsed) ≡ false
+          → ltb (2 ^ 64 - 33) (s .journal .missed) ≡ false → Good bytes → Scanning bytes x s (scanOf bytes x s)
+      by-read ok g t m (good p end h f) =
+          answers p end (eqb-true _ _ ok) g (ltb-false _ _ t) (ltb-false _ _ m) h (rw (ok, g, t, m, h))
+
+      by-missed : (ok : eqb (accepted bytes .refusal) 0 ≡ true) (g : goodState s ≡ true) → ltb (2 ^ 64 - 1) (s .time + x .elapsed) ≡ false
+          → (b : Bool) → ltb (2 ^ 64 - 33) (s .journal .missed) ≡ b → Scanning bytes x s (scanOf bytes x s)
+      by-missed ok g t true m = refuses-missed (eqb-true _ _ ok) g (ltb-true _ _ m) (rw (ok, g, t, m) (refused-so s 6 0))
+      by-missed ok g t false m = by-read ok g t m (accepted-good bytes (eqb-true _ _ ok))
+
+      by-time : (ok : eqb (accepted bytes .refusal) 0 ≡ true) (g : goodState s ≡ true)
+          → (b : Bool) → ltb (2 ^ 64 - 1) (s .time + x .elapsed) ≡ b → Scanning bytes x s (scanOf bytes x s)
+      by-time ok g true t = refuses-time (eqb-true _ _ ok) g (ltb-true _ _ t) (rw (ok, g, t) (refused-so s 6 0))
+      by-time ok g false t = by-missed ok g t (ltb (2 ^ 64 - 33) (s .journal .missed)) refl
+
+      by-state : (ok : eqb (accepted bytes .refusal) 0 ≡ true) (b : Bool) → goodState s ≡ b → Scanning bytes x s (scanOf bytes x s)
+      by-state ok false g = refuses-state (eqb-true _ _ ok) g (rw (ok, g) (refused-so s 5 0))
+      by-state ok true g = by-time ok g (ltb (2 ^ 64 - 1) (s .time + x .elapsed)) refl
+
+      by-program : (b : Bool) → eqb (accepted bytes .refusal) 0 ≡ b → Scanning bytes x s (scanOf bytes x s)
+      by-program false ne =
+          refuses-program (positive (eqb-false _ _ ne)) (rw ne (refused-so s (accepted bytes .refusal) (accepted bytes .place)))
+      by-program true ok = by-state ok (goodState s) refl
+
+pub take-row : (s : State) → Taking s (takeOf s)
+unfolding takeOf
+take-row s = go (goodState s) refl
+  where
+    go : (b : Bool) → goodState s ≡ b → Taking s (takeOf s)
+    go false g = refuses g (rw g (record { state = refl; refusal = refl; found = refl; entry = refl }))
+    go true g = hands g (rw g)
