@@ -94,9 +94,15 @@ static void put_number(buffer *out, uint32_t value, form how)
         return;
     }
     put_byte(out, value | 0x80);
-    for (; how == OVER && groups < 3; groups++)
+    if (how == PADDED) {
+        if (groups == 1 && percent(40))
+            put_byte(out, 0x80);
+        put_byte(out, 0);
+        return;
+    }
+    for (; groups < 3; groups++)
         put_byte(out, 0x80);
-    put_byte(out, how == OVER ? below(3) : 0);
+    put_byte(out, below(3));
 }
 
 /* ---- The program as a list of numbers, each with its meaning ---- */
@@ -114,6 +120,7 @@ static struct {
     } number[40000];
     size_t numbers;
     uint8_t kinds[MOST_BLOCKS];
+    int32_t likely[MOST_BLOCKS]; /* a value about which the word may lie */
     uint32_t blocks;
     uint32_t block; /* the one being written */
     uint32_t memory;
@@ -239,7 +246,7 @@ static uint32_t input_of(habit wanted)
 /* A bit reference, mostly to an input of the wanted habit. */
 static uint32_t some_bit(habit wanted)
 {
-    if (percent(62))
+    if (percent(program.blocks == 1 ? 80 : 62))
         return input_of(wanted);
     if (percent(75))
         return BIT_OUTPUT + some_block();
@@ -278,8 +285,11 @@ static int32_t some_constant(void)
 {
     static const int32_t ends[] = {-32768, -1, 0, 1, 2, 5, 32766, 32767};
 
-    if (percent(70))
-        return held_to_word(scene.centre[below(ANALOGS)] + between(-3, 3));
+    if (percent(70)) {
+        int32_t centre = scene.centre[below(ANALOGS)];
+
+        return held_to_word(centre + between(-3, 3));
+    }
     return percent(80) ? ONE_OF(ends) : between(-32768, 32767);
 }
 
@@ -420,8 +430,8 @@ static void put_timed(uint32_t kind)
 static void put_counter(uint32_t kind)
 {
     static const int32_t ends[] = {-32768, -32767, 32766, 32767};
-    int32_t preset = percent(60) ? between(-2, 5)
-        : percent(70)            ? ONE_OF(ends)
+    int32_t preset = percent(45) ? between(-2, 5)
+        : percent(80)            ? ONE_OF(ends)
                                  : between(-32768, 32767);
 
     if (kind == CN) {
@@ -432,20 +442,29 @@ static void put_counter(uint32_t kind)
     }
     put(BIT, some_bit(BUSY));
     put(BIT, some_bit(percent(50) ? BUSY : SLOW));
-    put(BIT, some_clear());
+    put(BIT, percent(70) ? input_of(RARELY_ON) : some_clear());
     put(BIT, some_clear());
     put(SIGNED, (uint32_t)(SIGNED_ZERO + preset));
+    program.likely[program.block] = preset;
 }
 
 static void put_generator(void)
 {
-    uint32_t divisor = some_factor();
+    uint32_t analog = below(ANALOGS);
+    uint32_t a = some_factor();
+    uint32_t b = some_factor();
+    uint32_t c = some_factor();
 
+    if (b == SIGNED_ZERO)
+        b += 2;
     put(BIT, some_bit(percent(50) ? MOSTLY_ON : BUSY));
-    put(SIGNED, some_factor());
-    put(DIVISOR, divisor == SIGNED_ZERO ? SIGNED_ZERO + 2 : divisor);
-    put(SIGNED, some_factor());
-    put(WORD, some_word());
+    put(SIGNED, a);
+    put(DIVISOR, b);
+    put(SIGNED, c);
+    put(WORD, percent(60) ? analog : some_word());
+    program.likely[program.block] = held_to_word(
+        ((int32_t)a - SIGNED_ZERO) * scene.centre[analog] / ((int32_t)b - SIGNED_ZERO)
+        + (int32_t)c - SIGNED_ZERO);
 }
 
 /* Writes the fields of a kind that is not BL. */
@@ -537,7 +556,9 @@ static void put_probe(uint32_t seen)
 static void put_word_probe(uint32_t seen)
 {
     static const int32_t ends[] = {-32768, -32767, -3, 0, 32766, 32767};
-    int32_t constant = percent(60) ? between(-2, 5) : ONE_OF(ends);
+    int32_t constant = percent(50) ? held_to_word(program.likely[seen] + between(-2, 2))
+        : percent(60)              ? between(-3, 5)
+                                   : ONE_OF(ends);
 
     start_block(CP);
     put(BIT, 1);
@@ -599,7 +620,7 @@ static void make_single(uint32_t kind)
 static void make_observed(uint32_t kind)
 {
     uint32_t seen = 1 + below(4);
-    uint32_t probes = seen * (1 + below(3));
+    uint32_t probes = seen * (has_word(kind) ? 2 + below(4) : 1 + below(3));
     uint32_t i;
 
     start_program(seen + probes);
@@ -619,8 +640,9 @@ static void make_observed(uint32_t kind)
 }
 
 /* Blocks of all kinds, then a probe for some of them. */
-static void make_circuit(uint32_t blocks, uint32_t probes, uint32_t nodes)
+static void make_circuit(uint32_t blocks, uint32_t most_probes, uint32_t nodes)
 {
+    uint32_t probes = below(most_probes + 1);
     uint32_t i;
 
     start_program(blocks + probes);
@@ -649,11 +671,11 @@ static void make_expressions(void)
 
     start_program(blocks);
     for (i = 0; i < blocks; i++) {
-        uint32_t depth = 6 + below(MOST_DEPTH - 5);
+        uint32_t depth = percent(50) ? MOST_DEPTH : 6 + below(MOST_DEPTH - 5);
         uint32_t nodes = percent(30) ? MOST_NODES : 1 + below(MOST_NODES);
 
         start_block(BL);
-        put_expression((shape)below(SHAPES), nodes, percent(50) ? MOST_DEPTH : depth);
+        put_expression((shape)below(SHAPES), nodes, depth);
         program.memory += nodes;
         program.block++;
     }
@@ -730,9 +752,9 @@ static void make_good(void)
     } else if (style < 48) {
         make_observed(some_kind());
     } else if (style < 72) {
-        make_circuit(2 + below(14), 1 + below(8), 20);
+        make_circuit(2 + below(14), 8, 20);
     } else if (style < 80) {
-        make_circuit(30 + below(151), below(21), 6);
+        make_circuit(30 + below(151), 20, 6);
     } else if (style < 92) {
         make_expressions();
     } else {
@@ -771,17 +793,18 @@ static uint32_t limit_of(meaning what)
     return limits[what];
 }
 
-/* Makes some number too large, or a word reference one of the gap. */
-static void put_outside(void)
+/* Makes a number too large, or a word reference one of the gap.  It is one of
+ * that meaning, if there is any. */
+static void put_outside(meaning what)
 {
-    size_t at = below((uint32_t)program.numbers);
-    uint32_t limit = limit_of(program.number[at].what);
+    uint32_t limit;
+    size_t at;
 
-    if (percent(25))
-        find((meaning)below(ALARM_COUNT + 1), &at);
+    if (!find(what, &at))
+        at = below((uint32_t)program.numbers);
     limit = limit_of(program.number[at].what);
     if (program.number[at].what == WORD && percent(60))
-        program.number[at].value = percent(50) ? (percent(50) ? 208 : 999) : 208 + below(792);
+        program.number[at].value = percent(70) ? (percent(50) ? 208 : 999) : 208 + below(792);
     else if (program.number[at].what == COUNT && percent(50))
         program.number[at].value = 0;
     else
@@ -862,14 +885,17 @@ static void make_bounds(void)
     start_program(blocks);
     while (program.block < blocks) {
         uint32_t nots = MOST_DEPTH - 1 + below(2);
+        uint32_t depth = MOST_DEPTH + below(2);
+        uint32_t nodes = 40 + below(24);
+        uint32_t over = below(3);
 
         start_block(BL);
         switch (below(4)) {
         case 0:
-            put_expression((shape)below(SHAPES), MOST_NODES + below(3), MOST_DEPTH);
+            put_expression((shape)below(SHAPES), MOST_NODES + over, MOST_DEPTH);
             break;
         case 1:
-            put_expression(ONE_OF(deep), 40 + below(24), MOST_DEPTH + below(2));
+            put_expression(ONE_OF(deep), nodes, depth);
             break;
         case 2:
             while (nots-- > 0)
@@ -888,27 +914,30 @@ static void make_bounds(void)
 /* Damages some number of the program. */
 static void damage_number(void)
 {
-    switch (below(9)) {
+    switch (below(12)) {
     case 0:
     case 1:
-        put_outside();
+        put_outside((meaning)below(ALARM_COUNT + 1));
         break;
     case 2:
+    case 3:
+    case 4:
         put_absent();
         break;
-    case 3:
+    case 5:
+    case 6:
         put_wordless();
         break;
-    case 4:
+    case 7:
         put_zero_divisor();
         break;
-    case 5:
+    case 8:
         put_zero_flasher();
         break;
-    case 6:
+    case 9:
         put_other_count();
         break;
-    case 7:
+    case 10:
         program.number[below((uint32_t)program.numbers)].how = PADDED;
         break;
     default:
@@ -922,20 +951,29 @@ static void damage_bytes(buffer *bytes)
 {
     uint32_t times = 1 + below(3);
 
-    switch (below(4)) {
+    switch (below(5)) {
     case 0:
         bytes->length = below((uint32_t)bytes->length + 1);
         break;
     case 1:
         bytes->length -= 1;
         break;
-    case 2:
+    case 2: /* cut within a number */
+        bytes->length = below((uint32_t)bytes->length);
+        put_byte(bytes, 0x80 | below(128));
+        if (percent(50))
+            put_byte(bytes, 0x80 | below(128));
+        break;
+    case 3:
         while (times-- > 0)
             put_byte(bytes, percent(40) ? 0 : below(256));
         break;
     default:
-        while (times-- > 0)
-            bytes->bytes[below((uint32_t)bytes->length)] = (uint8_t)below(256);
+        while (times-- > 0) {
+            uint32_t at = below((uint32_t)bytes->length);
+
+            bytes->bytes[at] = (uint8_t)below(256);
+        }
         break;
     }
 }
@@ -949,14 +987,51 @@ static void write_program(buffer *bytes)
         put_number(bytes, program.number[i].value, program.number[i].how);
 }
 
+/* Damage that only some kinds can take, in a block of such a kind. */
+static void make_special(void)
+{
+    static const uint8_t readers[] = {CP, OG, ZC, ST};
+    uint32_t times = percent(60) ? 1 : 2;
+
+    switch (below(7)) {
+    case 0:
+        make_single(FL);
+        put_zero_flasher();
+        break;
+    case 1:
+        make_single(OG);
+        put_zero_divisor();
+        break;
+    case 2:
+        make_single(ONE_OF(readers));
+        put_outside(WORD);
+        break;
+    default:
+        if (percent(30))
+            make_single(ONE_OF(readers));
+        else
+            make_circuit(8 + below(12), 4, 6);
+        while (times-- > 0) {
+            if (percent(30))
+                put_absent();
+            else
+                put_wordless();
+        }
+        break;
+    }
+}
+
 /* A program that is refused, or was at least meant to be. */
 static void make_damaged(buffer *bytes)
 {
     uint32_t times = percent(70) ? 1 : 2;
-    uint32_t style = below(100);
+    uint32_t style = below(140);
 
-    if (style < 10) {
-        make_bounds();
+    if (style < 10 || style >= 100) {
+        if (style < 10)
+            make_bounds();
+        else
+            make_special();
         write_program(bytes);
         return;
     }
@@ -965,7 +1040,7 @@ static void make_damaged(buffer *bytes)
     else if (style < 40)
         make_single(some_kind());
     else
-        make_circuit(1 + below(20), below(5), 10);
+        make_circuit(1 + below(20), 4, 10);
     if (style >= 75) {
         write_program(bytes);
         damage_bytes(bytes);
@@ -1103,10 +1178,10 @@ static void put_recording(buffer *out)
     fault what = NOTHING_WRONG;
 
     set_scene();
-    if (style < 68) {
+    if (style < 63) {
         make_good();
         write_program(&bytes);
-    } else if (style < 72) {
+    } else if (style < 67) {
         make_memory(MOST_MEMORY + (percent(50) ? 0 : 1 + below(3)));
         write_program(&bytes);
     } else if (style < 88) {

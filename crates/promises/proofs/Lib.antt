@@ -1,3 +1,4 @@
+pub mod Acceptance
 pub mod Refusals
 pub mod Programs
 pub mod Rises

@@ -1,6 +1,31 @@
-// The promises of Lanwezik: each is the contract of a function that does nothing.
+// The promises of Lanwezik, each the contract of a function that does nothing: what it ensures is a theorem over the definitions that
+// the calls' contracts cite. `specs/` says what each means.
+ghost use Rattle.promises.specs.Demand1.{Demand1};
+ghost use Rattle.promises.specs.Demand2.{EveryRun};
+ghost use Rattle.promises.specs.Demand3.{EveryHistory};
+ghost use Rattle.promises.specs.Closure.{Closure};
 ghost use Rattle.promises.specs.Determinacy.{Determinacy};
 ghost use Rattle.promises.specs.Examples.{AllShown, examples};
+
+// Any call, any content: every call answers, or refuses by the table, and hands back the given state.
+pub fn demand_one()
+    ensures { λ _. ⌜ Demand1 ⌝ }
+{}
+
+// Exactly the block rules, in every scan of a run.
+pub fn demand_two()
+    ensures { λ _. ⌜ EveryRun ⌝ }
+{}
+
+// No alarm is lost silently.
+pub fn demand_three()
+    ensures { λ _. ⌜ EveryHistory ⌝ }
+{}
+
+// A good state is handed back for a good state; from fresh, none is ever refused.
+pub fn closure()
+    ensures { λ _. ⌜ Closure ⌝ }
+{}
 
 // Each public function's contract gives one answer for each input.
 pub fn determinacy()
