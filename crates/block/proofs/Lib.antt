@@ -4,4 +4,4 @@ pub mod References
 pub mod Answers
 pub mod Expressions
 pub mod Rows
-pub mod Lists
+pub mod Gives

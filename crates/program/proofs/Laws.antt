@@ -13,6 +13,7 @@ use Rattle.block.specs.Blocks.{Bit, Block}
 use Rattle.block.specs.Kinds.{pin, blockCount, alarmCount, bitRef, memoryOf, figureOf, markOf}
 use Rattle.block.specs.Reading.{Read, got, fault, andThen, Known, typedAt, blockAt}
 use Rattle.block.specs.Answers.{briefOf}
+use Rattle.block.proofs.Gives.{Long, gives-after, long-cons}
 use Rattle.block.specs.declared.Brief.the-variants.{Got as BriefGot, Fault as BriefFault}
 use Rattle.block.specs.declared.End.the-variants.{Next, Fault}
 use Rattle.program.specs.Program.{Program, blocksAt, referencesAt, endAt, alarmsAt, programAt, memory, figure}
@@ -71,24 +72,11 @@ module _ (k : Known) (i : ℕ) (l : List ℕ) (m f : ℕ) (s : List ℕ) (at : �
       rw (d, add-zero, add-zero)
 
 -- where n blocks are read, there are n of them
-abbrev Long : ℕ → Read (List Block) → Type 0
-Long n (got bs end) = length bs ≡ n
-Long n (fault x at) = Unit {0}
-
-long-cons : (n : ℕ) (b : Block) (r : Read (List Block)) → Long n r → Long (suc n) (andThen r (λ bs end. got (b ∷ bs) end))
-long-cons n b (got bs end) h = ap suc h
-long-cons n b (fault x at) h = tt
-
-long-then :
-    (n : ℕ) (r : Read Block) (f : ℕ → Read (List Block)) → ((at : ℕ) → Long n (f at)) →
-    Long (suc n) (andThen r (λ b next. andThen (f next) (λ bs end. got (b ∷ bs) end)))
-long-then n (got b next) f h = long-cons n b (f next) (h next)
-long-then n (fault x at) f h = tt
-
 long : (k : Known) (n : ℕ) (s : List ℕ) (at : ℕ) → Long n (blocksAt k n s at)
 unfolding blocksAt
 long k zero s at = refl
-long k (suc n) s at = long-then n (blockAt k s at) (λ next. blocksAt k n s next) (λ next. long k n s next)
+long k (suc n) s at =
+    gives-after (λ bs. length bs ≡ suc n) (blockAt k s at) _ (λ b next. long-cons n b (blocksAt k n s next) (long k n s next))
 
 pub blocks-long : (k : Known) (n : ℕ) (s : List ℕ) (at : ℕ) {bs : List Block} {end : ℕ} → blocksAt k n s at ≡ got bs end → length bs ≡ n
 blocks-long k n s at e = subst (Long n) e (long k n s at)

@@ -31,7 +31,7 @@ use Rattle.promises.specs.Demand1.{RefusedScan, Scanning, refuses-progra
 use Rattle.promises.specs.Demand2.{ByTheRules, Demand2, EveryRun}
 use Rattle.promises.specs.Demand3.{held, Demand3, EveryHistory}
 use Rattle.promises.specs.Closure.{Closure}
-use Rattle.promises.proofs.Programs.{alarms-few}
+use Rattle.promises.proofs.ReadPrograms.{alarms-few}
 use Rattle.promises.proofs.Refusals.{scan-row, take-row}
 use Rattle.promises.proofs.Rises.{rises-from}
 use Rattle.promises.proofs.Ledgers.{Keeps, kept-long, held-long, enters-all, inAll, all-more, crossed-same, Hands, hands as hands-over}

@@ -1,6 +1,10 @@
 pub mod Acceptance
 pub mod Refusals
-pub mod Programs
+pub mod ReadPrograms
+pub mod Ticks
+pub mod GoodPlaces
+pub mod GoodJournal
+pub mod Closed
 pub mod Rises
 pub mod Ledgers
 pub mod Histories

@@ -17,6 +17,7 @@ use Rattle.block.proofs.References.{content-code}
 use Rattle.block.proofs.KindTable.{types-few, type-plain}
 use Rattle.block.proofs.Expressions.{typed-allowed}
 use Rattle.block.proofs.Rows.{row-stopped}
+use Rattle.block.proofs.Gives.{Long, gives-after, long-cons}
 use Rattle.block.specs.Answers.{rowOf}
 use Rattle.block.specs.declared.Row.{Row}
 use Rattle.block.specs.declared.End.the-variants.{Next, Fault as EndFault}
@@ -37,10 +38,10 @@ abbrev pub Held : ℕ → List ℕ → List Content → Type 0
 Held i l [] = Unit {0}
 Held i l (c ∷ cs) = (getD l i 0 ≡ codeOf c) × Held (suc i) l cs
 
-record Said (ts : List ℕ) (i before : ℕ) (l : List ℕ) (cs : List Content) : Type 0 where
-  allow : allAllowed ts i before l ≡ true
-  same : contents ts i l ≡ cs
-  one : (f : Bit → Bool) → stepsOf f cs ≡ 1
+pub record Said (ts : List ℕ) (i before : ℕ) (l : List ℕ) (cs : List Content) : Type 0 where
+  pub allow : allAllowed ts i before l ≡ true
+  pub same : contents ts i l ≡ cs
+  pub one : (f : Bit → Bool) → stepsOf f cs ≡ 1
 
 step-one : (f : Bit → Bool) (ty v : ℕ) (cs : List Content) → stepsOf f (contentOf ty v ∷ cs) ≡ 1
 unfolding contentOf
@@ -78,24 +79,11 @@ module _ (k : Known) (s : List ℕ) (l : List ℕ) where
       field again (fault x y) t e = let z : _≡_ {A = ℕ} 0 1 = cc in absurd (omega arith)
 
 -- as many contents are read as there are types
-abbrev Long : ℕ → Read (List Content) → Type 0
-Long n (got cs next) = length cs ≡ n
-Long n (fault x at) = Unit {0}
-
-long-cons : (n : ℕ) (c : Content) (r : Read (List Content)) → Long n r → Long (suc n) (andThen r (λ cs end. got (c ∷ cs) end))
-long-cons n c (got cs end) h = ap suc h
-long-cons n c (fault x at) h = tt
-
-long-then :
-    (n : ℕ) (r : Read Content) (f : Content → ℕ → Read (List Content)) → ((c : Content) (m : ℕ) → Long n (f c m)) → Long n (andThen r f)
-long-then n (got c m) f h = h c m
-long-then n (fault x at) f h = tt
-
 long : (k : Known) (ts : List ℕ) (before : ℕ) (s : List ℕ) (at : ℕ) → Long (length ts) (fieldsAt k ts before s at)
 unfolding fieldsAt
 long k [] before s at = refl
 long k (ty ∷ ts) before s at =
-    long-then (suc (length ts)) (contentAt k ty before s at) _
+    gives-after (λ cs. length cs ≡ suc (length ts)) (contentAt k ty before s at) _
     (λ c m. long-cons (length ts) c (fieldsAt k ts (settingOf c) s m) (long k ts (settingOf c) s m))
 
 fields-long : (k : Known) (ts : List ℕ) (before : ℕ) (s : List ℕ) (at : ℕ) {cs : List Content} {next : ℕ} → fieldsAt k ts before s at ≡ got cs next → length cs ≡ length ts
@@ -121,6 +109,14 @@ stored-held cs h =
     let n : length (map codeOf cs) ≡ length cs = length-map cs codeOf in
     let z : 0 + j ≡ j = omega arith in
     rw z (stored-at (map codeOf cs) j (omega arith) (omega arith)))
+
+-- what was read of a row without an expression, by its own numbers
+pub said :
+    (k : Known) (kind : ℕ) → kind < 13 → 0 < kind → (s : List ℕ) (at : ℕ) {cs : List Content} {next : ℕ} → fieldsAt k (typesOf kind) 0 s at ≡ got cs next →
+    Said (typesOf kind) 0 0 (map codeOf cs) cs
+said k kind lt ne s at {cs} e =
+    row k s (map codeOf cs) (plain-by (typesOf kind) (type-plain kind lt ne)) 0 0 at cs e
+    (held-by cs 0 (map codeOf cs) (λ j p. let z : 0 + j ≡ j = omega arith in rw z))
 
 -- the row of a block that is no BL, as it was read
 module _ (k : Known) (kind : ℕ) (lt : kind < 13) (ne : 0 < kind) (s : List ℕ) (at : ℕ) (r : Row) (e : r ≡ rowOf (fieldsAt k (typesOf kind) 0 s at)) where

@@ -1,0 +1,95 @@
+-- A good state stays good in every answer: a refusal hands it back, a scan's places and rises and a take keep it good. So no call from
+-- fresh is refused with 5: acceptance refuses with 4 at most, and the state is good. Assumes nothing.
+use Prim.Native.Nat.{ℕ, _≤_}
+use mathlib.Core.Path.{_≡_, refl, ap, _∙_}
+use mathlib.Core.Bool.{true}
+use mathlib.Core.List.{List, [], _∷_}
+use native.Mathlib.Omega.{arith}
+use lib.ListN.{length}
+use Rattle.wire.specs.Choice.{every}
+use Rattle.wire.proofs.Choice.{both}
+use Rattle.wire.proofs.Every.{both-hold}
+use Rattle.program.specs.declared.Acceptance.{Acceptance}
+use Rattle.program.specs.Program.{Program}
+use Rattle.program.specs.Acceptance.{everyBlock, accepted}
+use Rattle.journal.specs.Journal.{taken}
+use Rattle.hall.specs.declared.State.{State}
+use Rattle.hall.specs.declared.Scanned.{Scanned}
+use Rattle.hall.specs.declared.Handed.{Handed}
+use Rattle.hall.specs.State.{freshState, goodPlace, goodState}
+use Rattle.hall.specs.Scan.{Inputs}
+use Rattle.hall.specs.Calls.{badState, stampOf, answered, scanOf, handedBy, takeOf}
+use Rattle.promises.specs.Closure.{Closure}
+use Rattle.promises.specs.Demand1.{Accepting, stops, strays, overflows, passes, Scanning, refuses-program, refuses-state, refuses-time, refuses-missed, answers, Taking, refuses, hands}
+use Rattle.promises.specs.History.{Call, scan, take, refusalOf, stateOf, stateAfter}
+use Rattle.promises.proofs.Acceptance.{accept-row}
+use Rattle.promises.proofs.Refusals.{scan-row, take-row}
+use Rattle.promises.proofs.GoodJournal.{fresh-journal, risen-good, taken-good}
+use Rattle.promises.proofs.GoodPlaces.{fresh-places, scan-good}
+use Rattle.promises.proofs.ReadPrograms.{Rows, program-rows}
+
+fresh-good : goodState freshState ≡ true
+unfolding freshState goodState
+fresh-good = both-hold fresh-places fresh-journal
+
+-- ---- a scan
+
+answered-good : (p : Program) → Rows (p .blocks) → (x : Inputs) (s : State) → goodState s ≡ true → goodState (answered p x s .state) ≡ true
+unfolding answered goodState
+answered-good p rows x s h =
+    let o = both (every goodPlace (s .places)) _ h in
+    both-hold (scan-good x (p .blocks) rows (length (p .blocks)) (s .places) (o .0)) (risen-good _ (s .alarms) (stampOf x s) (s .journal) (o .1))
+
+-- acceptance refuses with 4 at most
+accepted-few : (bytes : List ℕ) → Accepting bytes (accepted bytes) → accepted bytes .refusal ≤ 4
+accepted-few bytes (stops n at e few q a) = omega (arith, few, ap (λ (y : Acceptance). y .refusal) a)
+accepted-few bytes (strays p end at e t r q a) = omega (arith, ap (λ (y : Acceptance). y .refusal) a)
+accepted-few bytes (overflows p end e t m a) = omega (arith, ap (λ (y : Acceptance). y .refusal) a)
+accepted-few bytes (passes p end e t m a) = omega (arith, ap (λ (y : Acceptance). y .refusal) a)
+
+-- what a good state comes to in a scan, and in a take
+abbrev ScanKeeps : Scanned → Type 0
+ScanKeeps a = (goodState (a .state) ≡ true) × (a .refusal ≡ badState → ⊥)
+
+scan-keeps : (bytes : List ℕ) (x : Inputs) (s : State) → goodState s ≡ true → Scanning bytes x s (scanOf bytes x s) → ScanKeeps (scanOf bytes x s)
+unfolding answered
+scan-keeps bytes x s h (refuses-program n r) =
+    (ap goodState (r .state) ∙ h, λ e. omega (arith, r .refusal, accepted-few bytes (accept-row bytes)))
+scan-keeps bytes x s h (refuses-state ok g r) = let z : _≡_ {A = ℕ} 0 1 = cc in absurd (omega arith)
+scan-keeps bytes x s h (refuses-time ok g t r) = (ap goodState (r .state) ∙ h, λ e. omega (arith, r .refusal))
+scan-keeps bytes x s h (refuses-missed ok g m r) = (ap goodState (r .state) ∙ h, λ e. omega (arith, r .refusal))
+scan-keeps bytes x s h (answers p end ok g t m read a) = rw a (answered-good p (program-rows everyBlock bytes read) x s h, λ e. omega arith)
+
+-- ---- a take
+
+handed-good : (s : State) → goodState s ≡ true → goodState (handedBy s (taken (s .journal)) .state) ≡ true
+unfolding goodState
+handed-good s h = let o = both (every goodPlace (s .places)) _ h in both-hold (o .0) (taken-good (s .journal) (o .1))
+
+abbrev TakeKeeps : Handed → Type 0
+TakeKeeps a = (goodState (a .state) ≡ true) × (a .refusal ≡ badState → ⊥)
+
+take-keeps : (s : State) → goodState s ≡ true → Taking s (takeOf s) → TakeKeeps (takeOf s)
+take-keeps s h (refuses g r) = let z : _≡_ {A = ℕ} 0 1 = cc in absurd (omega arith)
+take-keeps s h (hands g a) = rw a (handed-good s h, λ e. omega arith)
+
+-- ---- histories
+
+module _ (bytes : List ℕ) where
+  call-keeps : (s : State) (c : Call) → goodState s ≡ true → (goodState (stateOf bytes s c) ≡ true) × (refusalOf bytes s c ≡ badState → ⊥)
+  call-keeps s (scan x) h = scan-keeps bytes x s h (scan-row bytes x s)
+  call-keeps s take h = take-keeps s h (take-row s)
+
+  calls-keep : (s : State) (cs : List Call) → goodState s ≡ true → goodState (stateAfter bytes s cs) ≡ true
+  unfolding stateAfter
+  calls-keep s [] h = h
+  calls-keep s (c ∷ cs) h = calls-keep (stateOf bytes s c) cs (call-keeps s c h .0)
+
+pub closed : Closure
+closed =
+    record {
+      fresh = fresh-good;
+      scan = λ bytes x s h. scan-keeps bytes x s h (scan-row bytes x s) .0;
+      take = λ s h. take-keeps s h (take-row s) .0;
+      never = λ bytes cs c. call-keeps bytes (stateAfter bytes freshState cs) c (calls-keep bytes freshState cs fresh-good) .1;
+    }

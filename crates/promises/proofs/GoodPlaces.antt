@@ -1,0 +1,108 @@
+-- A place that passes the state check still does after the rule of any kind whose settings were read, and so do all places after a scan.
+-- Assumes nothing.
+use Prim.Native.Nat.{ℕ, zero, suc, _+_, _^_, _≤_, _<_}
+use mathlib.Core.Path.{_≡_, refl}
+use mathlib.Core.Bool.{Bool, true}
+use mathlib.Core.List.{List, [], _∷_}
+use native.Mathlib.Omega.{arith}
+use native.Mathlib.Nat.{pow-suc, zero-add}
+use lib.Dec.{leb, lit<, lit≤}
+use lib.IntN.{ℤ}
+use lib.ListN.{length, getD, replicate}
+use borrow.Author.Tests.{leb-true, le-leb}
+use Rattle.wire.specs.Choice.{pick, every}
+use Rattle.wire.proofs.Choice.{pick-case, both}
+use Rattle.block.specs.Blocks.{Bit, Word, Content, Block}
+use Rattle.block.specs.Kinds.{kindOf, settingOf, typesOf}
+use Rattle.rules.specs.declared.Place.{Place}
+use Rattle.rules.specs.Rules.{freshPlace, packed, bl, sr, pl, al, cn, ud, cp, zc, st}
+use Rattle.running.specs.Running.{fieldOf, pinOf, wordOfField, Rule, rules, ruleOf, ruled}
+use Rattle.hall.specs.State.{goodPlace}
+use Rattle.hall.specs.Scan.{Inputs, blockOf, scanTo}
+use Rattle.wire.proofs.Every.{both-hold, every-at, every-replicate, every-set}
+use Rattle.promises.proofs.ReadPrograms.{Row, Rows, setting-below, period-some}
+use Rattle.promises.proofs.Ticks.{most, Few, dl-few, os-few, fl-few, og-few}
+
+-- at most four pins are at most 15
+bit-most : (b : Bool) → pick b 1 0 ≤ 1
+bit-most b = pick-case (λ n. n ≤ 1) b (λ _. omega arith) (λ _. omega arith)
+
+packed-below : (l : List Bool) → packed l < 2 ^ length l
+packed-below [] = omega arith
+packed-below (b ∷ l) = omega (arith, bit-most b, packed-below l, pow-suc 2 (length l))
+
+few-of : (p : Place) → goodPlace p ≡ true → Few p
+unfolding goodPlace
+few-of p h = leb-true (p .ticks) most (both (leb (p .ticks) most) _ h .0)
+
+stores-good :
+    (l : List Bool) (o : Bool) (t : ℕ) (w : ℤ) → 2 ^ length l ≤ 16 → t ≤ most →
+    goodPlace (record { pins = packed l; out = o; ticks = t; word = w }) ≡ true
+unfolding goodPlace
+stores-good l o t w n h = both-hold (le-leb t most h) (le-leb (packed l) 15 (omega (arith, packed-below l)))
+
+bl-good : (value : Bool) (p : Place) → goodPlace p ≡ true → goodPlace (bl value p) ≡ true
+unfolding bl goodPlace
+bl-good value p h = h
+
+-- the rules, one after the other in the order of the table; there is none past the last, and the place stays
+
+module _ (cs : List Content) (pin : ℕ → Bool) (word : ℕ → ℤ) (e : ℕ) (p : Place) (h : goodPlace p ≡ true) where
+  -- a rule keeps the place good, with the settings of a row of its kind
+  abbrev Keeps : ℕ → Rule → Type 0
+  Keeps kind r = Row (record { kind = kind; fields = cs }) → goodPlace (r pin word (λ i. settingOf (fieldOf cs i)) e p) ≡ true
+
+  infixr 20 _also_
+  data AllKeep : ℕ → List Rule → Type 0 where
+    done : {i : ℕ} → AllKeep i []
+    _also_ : {i : ℕ} {r : Rule} {rs : List Rule} → Keeps i r → AllKeep (suc i) rs → AllKeep i (r ∷ rs)
+
+  keep-at : {i : ℕ} {rs : List Rule} → AllKeep i rs → (kind : ℕ) → Keeps (i + kind) (getD rs kind (λ pin word set e p. p))
+  keep-at done kind = λ row. h
+  keep-at (_also_ {i} k ks) zero = let z : i + 0 ≡ i = omega arith in rw z k
+  keep-at (_also_ {i} k ks) (suc kind) = let z : i + suc kind ≡ suc i + kind = omega arith in rw z (keep-at ks kind)
+
+  all-keep : AllKeep 0 rules
+  unfolding kindOf sr pl al cn ud cp zc st
+  all-keep =
+      let few = few-of p h in
+      (λ _. bl-good (pin 0) p h)
+      also (λ _. stores-good (pin 0 ∷ pin 1 ∷ []) _ _ _ (lit≤ tt) few)
+      also (λ _. stores-good (pin 0 ∷ []) _ _ _ (lit≤ tt) few)
+      also (λ _. stores-good (pin 0 ∷ pin 1 ∷ []) _ _ _ (lit≤ tt) few)
+      also (λ row. let below = setting-below (typesOf 4) (row (lit< tt)) in
+      stores-good (pin 0 ∷ pin 1 ∷ []) _ _ _ (lit≤ tt) (dl-few _ _ _ _ _ e p (below 3 (lit< tt)) (below 4 (lit< tt))))
+      also (λ row. let below = setting-below (typesOf 5) (row (lit< tt)) in
+      stores-good (pin 0 ∷ pin 1 ∷ []) _ _ _ (lit≤ tt) (os-few _ _ _ _ e p (below 3 (lit< tt))))
+      also (λ row. let below = setting-below (typesOf 6) (row (lit< tt)) in
+      stores-good (pin 0 ∷ []) _ _ _ (lit≤ tt) (fl-few _ _ _ _ e p (below 2 (lit< tt)) (below 3 (lit< tt)) (period-some (row (lit< tt)))))
+      also (λ _. stores-good (pin 0 ∷ pin 1 ∷ []) _ _ _ (lit≤ tt) few)
+      also (λ _. stores-good (pin 0 ∷ pin 1 ∷ pin 2 ∷ pin 3 ∷ []) _ _ _ (lit≤ tt) few)
+      also (λ _. stores-good (pin 0 ∷ []) _ _ _ (lit≤ tt) few)
+      also (λ _. stores-good (pin 0 ∷ []) _ _ _ (lit≤ tt) (og-few _ _ _ _ _ p few))
+      also (λ _. stores-good (pin 0 ∷ []) _ _ _ (lit≤ tt) few)
+      also (λ _. stores-good (pin 0 ∷ []) _ _ _ (lit≤ tt) few)
+      also done
+
+ruled-good : (f : Bit → Bool) (g : Word → ℤ) (e : ℕ) (b : Block) (p : Place) → Row b → goodPlace p ≡ true → goodPlace (ruled f g e b p) ≡ true
+unfolding ruled ruleOf
+ruled-good f g e b p row h =
+    let pin : ℕ → Bool = λ i. pinOf f (fieldOf (b .fields) i) in
+    let word : ℕ → ℤ = λ i. wordOfField g (fieldOf (b .fields) i) in
+    (rw (zero-add (b .kind)) at (keep-at (b .fields) pin word e p h (all-keep (b .fields) pin word e p h) (b .kind))) row
+
+zero-good : goodPlace freshPlace ≡ true
+unfolding goodPlace
+zero-good = refl
+
+pub fresh-places : every goodPlace (replicate 200 freshPlace) ≡ true
+fresh-places = every-replicate goodPlace 200 zero-good
+
+-- a block writes its own place, from one that is good or beyond the list
+pub scan-good :
+    (x : Inputs) (bs : List Block) → Rows bs → (n : ℕ) (ps : List Place) → every goodPlace ps ≡ true → every goodPlace (scanTo x bs n ps) ≡ true
+unfolding scanTo
+scan-good x bs rows zero ps h = h
+scan-good x bs rows (suc n) ps h =
+    let ih = scan-good x bs rows n ps h in
+    every-set goodPlace (scanTo x bs n ps) n ih (ruled-good _ _ (x .elapsed) (blockOf bs n) _ (rows n) (every-at goodPlace (scanTo x bs n ps) n ih zero-good))
