@@ -13,7 +13,7 @@ use Rattle.wire.proofs.Choice.{pick-case, when-case}
 use Rattle.block.specs.Blocks.{Block, Expr, Content, tree, nodes, nodesOf, nodesIn, codeOf}
 use Rattle.block.specs.Kinds.{expression, kindNumber, nothing, contentOf, settingOf, kindOf, typesOf, memoryOf, figureFor, figureOf, markFor}
 use Rattle.block.specs.Reading.{Read, got, fault, andThen, Known, typedAt, exprAt, contentAt, fieldsAt, blockAt}
-use Rattle.block.specs.Answers.{fieldOf, blankRow, rowFrom, rowOf, briefOf}
+use Rattle.block.specs.Answers.{fieldRead, blankRow, rowFrom, rowOf, briefOf}
 use Rattle.block.specs.declared.Field.the-variants.{Got, Fault}
 use Rattle.block.specs.declared.End.the-variants.{Next, Fault as EndFault}
 use Rattle.block.specs.declared.Brief.the-variants.{Got as BriefGot, Fault as BriefFault}
@@ -25,28 +25,28 @@ use Rattle.block.proofs.Expressions.{typed-below, few, Whole, whole}
 -- the field of a type, by what was read
 module _ (k : Known) (ty before : ℕ) (s : List ℕ) (at : ℕ) where
   pub field-tree : {next left : ℕ} → ty ≡ expression → Whole 63 (exprAt k 16 63 s at) next left
-      → (left ≤ 63) × (Got 0 (63 - left) 0 next ≡ fieldOf (contentAt k ty before s at))
+      → (left ≤ 63) × (Got 0 (63 - left) 0 next ≡ fieldRead (contentAt k ty before s at))
   unfolding contentAt
   field-tree {next} {left} e (whole t r l) =
       let h = few k 16 63 s at r in
       let n : 63 - left ≡ nodes t = omega arith in
       (omega arith, rw (eq-eqb _ _ e, r, n))
 
-  pub field-no-tree : {n p : ℕ} → ty ≡ expression → exprAt k 16 63 s at ≡ fault n p → Fault n p ≡ fieldOf (contentAt k ty before s at)
+  pub field-no-tree : {n p : ℕ} → ty ≡ expression → exprAt k 16 63 s at ≡ fault n p → Fault n p ≡ fieldRead (contentAt k ty before s at)
   unfolding contentAt
   field-no-tree e r = rw (eq-eqb _ _ e, r)
 
   pub field-reference : {v next : ℕ} → (ty ≡ expression → ⊥) → ty ≤ 1 → typedAt k ty before s at ≡ got v next
-      → Got v 0 0 next ≡ fieldOf (contentAt k ty before s at)
+      → Got v 0 0 next ≡ fieldRead (contentAt k ty before s at)
   unfolding contentAt
   field-reference {v} ne h r = rw (ne-eqb _ _ ne, r, content-code ty v, content-nodes ty v, content-reference ty v h)
 
   pub field-setting : {v next : ℕ} → (ty ≡ expression → ⊥) → 1 < ty → typedAt k ty before s at ≡ got v next
-      → Got v 0 v next ≡ fieldOf (contentAt k ty before s at)
+      → Got v 0 v next ≡ fieldRead (contentAt k ty before s at)
   unfolding contentAt
   field-setting {v} ne h r = rw (ne-eqb _ _ ne, r, content-code ty v, content-nodes ty v, content-setting ty v h)
 
-  pub field-no-number : {n p : ℕ} → (ty ≡ expression → ⊥) → typedAt k ty before s at ≡ fault n p → Fault n p ≡ fieldOf (contentAt k ty before s at)
+  pub field-no-number : {n p : ℕ} → (ty ≡ expression → ⊥) → typedAt k ty before s at ≡ fault n p → Fault n p ≡ fieldRead (contentAt k ty before s at)
   unfolding contentAt
   field-no-number ne r = rw (ne-eqb _ _ ne, r)
 
@@ -70,11 +70,11 @@ content-few k ty before s at =
     (λ _. few-tree (exprAt k 16 63 s at) (λ t n e. few k 16 63 s at e))
     (λ _. few-number ty (typedAt k ty before s at))
 
-got-few : (r : Read Content) {v m b next : ℕ} → fieldOf r ≡ Got v m b next → Few r → m ≤ 63
+got-few : (r : Read Content) {v m b next : ℕ} → fieldRead r ≡ Got v m b next → Few r → m ≤ 63
 got-few (got c n) {m = m} e f = let h : nodesOf c ≡ m = cc in omega arith
 got-few (fault n at) e f = let z : _≡_ {A = ℕ} 0 1 = cc in absurd (omega arith)
 
-pub field-few : (k : Known) (ty before : ℕ) (s : List ℕ) (at : ℕ) {v m b next : ℕ} → fieldOf (contentAt k ty before s at) ≡ Got v m b next → m ≤ 63
+pub field-few : (k : Known) (ty before : ℕ) (s : List ℕ) (at : ℕ) {v m b next : ℕ} → fieldRead (contentAt k ty before s at) ≡ Got v m b next → m ≤ 63
 field-few k ty before s at e = got-few (contentAt k ty before s at) e (content-few k ty before s at)
 
 -- one field before the rest of a row
@@ -85,7 +85,7 @@ row-cons i l n c (got cs end) = rw (add-one, add-assoc)
 row-cons i l n c (fault e at) = refl
 
 row-got :
-    (i : ℕ) (l : List ℕ) (n : ℕ) (r : Read Content) (f : ℕ → ℕ → Read (List Content)) {v m b next : ℕ} → fieldOf r ≡ Got v m b next →
+    (i : ℕ) (l : List ℕ) (n : ℕ) (r : Read Content) (f : ℕ → ℕ → Read (List Content)) {v m b next : ℕ} → fieldRead r ≡ Got v m b next →
     rowFrom i l n (andThen r (λ c at. andThen (f (settingOf c) at) (λ cs end. got (c ∷ cs) end)))
     ≡ rowFrom (i + 1) (set l i v) (n + m) (f b next)
 row-got i l n (got c at) f {v} {m} {b} {next} e =
@@ -97,20 +97,20 @@ row-got i l n (got c at) f {v} {m} {b} {next} e =
 row-got i l n (fault x at) f e = let z : _≡_ {A = ℕ} 0 1 = cc in absurd (omega arith)
 
 row-stop :
-    (i : ℕ) (l : List ℕ) (n : ℕ) (r : Read Content) (f : Content → ℕ → Read (List Content)) {x p : ℕ} → fieldOf r ≡ Fault x p →
+    (i : ℕ) (l : List ℕ) (n : ℕ) (r : Read Content) (f : Content → ℕ → Read (List Content)) {x p : ℕ} → fieldRead r ≡ Fault x p →
     rowFrom i l n (andThen r f) ≡ blankRow x p
 row-stop i l n (got c at) f e = let z : _≡_ {A = ℕ} 0 1 = cc in absurd (omega arith)
 row-stop i l n (fault x at) f e = cc
 
 module _ (k : Known) (ts : List ℕ) (i before : ℕ) (l : List ℕ) (n : ℕ) (s : List ℕ) (at : ℕ) where
-  pub fields-got : {v m b next : ℕ} → i < length ts → fieldOf (contentAt k (getD ts i nothing) before s at) ≡ Got v m b next
+  pub fields-got : {v m b next : ℕ} → i < length ts → fieldRead (contentAt k (getD ts i nothing) before s at) ≡ Got v m b next
       → rowFrom i l n (fieldsAt k (drop i ts) before s at) ≡ rowFrom (i + 1) (set l i v) (n + m) (fieldsAt k (drop (i + 1) ts) b s next)
   unfolding fieldsAt
   fields-got h e =
       rw (drop-cons ts i nothing h, add-one i)
       (rw (add-one i) at (row-got i l n (contentAt k (getD ts i nothing) before s at) (λ b at. fieldsAt k (drop (suc i) ts) b s at) e))
 
-  pub fields-stop : {x p : ℕ} → i < length ts → fieldOf (contentAt k (getD ts i nothing) before s at) ≡ Fault x p
+  pub fields-stop : {x p : ℕ} → i < length ts → fieldRead (contentAt k (getD ts i nothing) before s at) ≡ Fault x p
       → rowFrom i l n (fieldsAt k (drop i ts) before s at) ≡ blankRow x p
   unfolding fieldsAt
   fields-stop h e = rw (drop-cons ts i nothing h) (row-stop i l n (contentAt k (getD ts i nothing) before s at) _ e)

@@ -27,9 +27,9 @@ passed left (got t next) = Good next (left - nodes t)
 passed left (fault n at) = PassedFault n at
 
 -- a field: the number that carries it, its nodes, and what it is to the next as the setting before
-abbrev pub fieldOf : Read Content → Field
-fieldOf (got c next) = FieldGot (codeOf c) (nodesOf c) (settingOf c) next
-fieldOf (fault n at) = FieldFault n at
+abbrev pub fieldRead : Read Content → Field
+fieldRead (got c next) = FieldGot (codeOf c) (nodesOf c) (settingOf c) next
+fieldRead (fault n at) = FieldFault n at
 
 abbrev pub blankRow : ℕ → ℕ → Row
 blankRow n at = record { fields = replicate 5 0; nodes = 0; end = EndFault n at }

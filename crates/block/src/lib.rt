@@ -5,7 +5,7 @@ ghost use Prim.Native.Nat.{_<_, _≤_};
 ghost use lib.ListN.{getD};
 ghost use Rattle.block.specs.Kinds.{allowed, bitRef, figureFor, kindOf, limits, markFor, nothing, typesOf};
 ghost use Rattle.block.specs.Reading.{bitKnown, known, typedAt, headAt, exprAt, contentAt, fieldsAt, blockAt};
-ghost use Rattle.block.specs.Answers.{numberOf, passed, fieldOf, blankRow, rowOf, briefOf};
+ghost use Rattle.block.specs.Answers.{numberOf, passed, fieldRead, blankRow, rowOf, briefOf};
 
 // The numbers of refusal that reading gives.
 pub const BAD: u8 = 1;
@@ -296,7 +296,7 @@ pub enum Field {
 // The field of type ty at a place, after the setting `before`.
 fn read_field(s: &[u8], at: usize, ty: u8, before: u32, blocks: &[u8; 200]) -> Field
     requires { ⌜ ty < 14 ⌝ }
-    ensures { λ r. ⌜ r ≡ fieldOf (contentAt (now (blocks .entry)) ty before (now (s .entry)) at) ⌝ }
+    ensures { λ r. ⌜ r ≡ fieldRead (contentAt (now (blocks .entry)) ty before (now (s .entry)) at) ⌝ }
 {
     if ty == EXPRESSION {
         let e = pass(s, at, 16, 63, blocks);

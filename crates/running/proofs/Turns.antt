@@ -14,17 +14,17 @@ use Rattle.expression.specs.declared.Value.the-variants.{Done, Broken}
 use Rattle.rules.specs.declared.Place.{Place}
 use Rattle.rules.specs.Rules.{bl}
 use Rattle.running.specs.Running.{ruleOf, ruled}
-use Rattle.running.specs.Answers.{blockOf, noTurn, turnOf}
+use Rattle.running.specs.Answers.{blockRead, noTurn, turnOf}
 
 module _ (k : Known) (s : List ℕ) (at : ℕ) (f : Bit → Bool) (g : Word → ℤ) (e : ℕ) (p : Place) where
   pub bl-done : {x : Bool} {q n m : ℕ} → valued f 63 (exprAt k 16 63 s at) ≡ Done x q n m
-      → record { place = bl x p; steps = q; end = Next n } ≡ turnOf f g e p (blockOf 0 (fieldsAt k (typesOf 0) 0 s at))
+      → record { place = bl x p; steps = q; end = Next n } ≡ turnOf f g e p (blockRead 0 (fieldsAt k (typesOf 0) 0 s at))
   unfolding fieldsAt contentAt kindOf ruled ruleOf
   bl-done {x} {q} {n} {m} h = go (exprAt k 16 63 s at) h
     where
       go : (r : Read Expr) → valued f 63 r ≡ Done x q n m
           → record { place = bl x p; steps = q; end = Next n }
-          ≡ turnOf f g e p (blockOf 0 (andThen (andThen r (λ t n. got (tree t) n)) (λ c n. andThen (fieldsAt k [] 0 s n) (λ cs end. got (c ∷ cs) end))))
+          ≡ turnOf f g e p (blockRead 0 (andThen (andThen r (λ t n. got (tree t) n)) (λ c n. andThen (fieldsAt k [] 0 s n) (λ cs end. got (c ∷ cs) end))))
       go (got t n′) h =
           let ex : value f t ≡ x = cc in
           let eq : steps f t ≡ q = cc in
@@ -32,18 +32,18 @@ module _ (k : Known) (s : List ℕ) (at : ℕ) (f : Bit → Bool) (g : Word → 
           rw (ex, eq, en)
       go (fault y z) h = let w : _≡_ {A = ℕ} 0 1 = cc in absurd (omega arith)
 
-  pub bl-broken : {n q : ℕ} → valued f 63 (exprAt k 16 63 s at) ≡ Broken n q → noTurn p n q ≡ turnOf f g e p (blockOf 0 (fieldsAt k (typesOf 0) 0 s at))
+  pub bl-broken : {n q : ℕ} → valued f 63 (exprAt k 16 63 s at) ≡ Broken n q → noTurn p n q ≡ turnOf f g e p (blockRead 0 (fieldsAt k (typesOf 0) 0 s at))
   unfolding fieldsAt contentAt kindOf
   bl-broken {n} {q} h = go (exprAt k 16 63 s at) h
     where
       go : (r : Read Expr) → valued f 63 r ≡ Broken n q
           → noTurn p n q
-          ≡ turnOf f g e p (blockOf 0 (andThen (andThen r (λ t n. got (tree t) n)) (λ c n. andThen (fieldsAt k [] 0 s n) (λ cs end. got (c ∷ cs) end))))
+          ≡ turnOf f g e p (blockRead 0 (andThen (andThen r (λ t n. got (tree t) n)) (λ c n. andThen (fieldsAt k [] 0 s n) (λ cs end. got (c ∷ cs) end))))
       go (got t n′) h = let w : _≡_ {A = ℕ} 0 1 = cc in absurd (omega arith)
       go (fault y z) h = let a : y ≡ n = cc in let b : z ≡ q = cc in rw (a, b)
 
   pub turn-of : {v next : ℕ} → typedAt k kindNumber 0 s at ≡ got v next
-      → turnOf f g e p (blockOf v (fieldsAt k (typesOf v) 0 s next)) ≡ turnOf f g e p (blockAt k s at)
+      → turnOf f g e p (blockRead v (fieldsAt k (typesOf v) 0 s next)) ≡ turnOf f g e p (blockAt k s at)
   unfolding blockAt
   turn-of h = rw h
 

@@ -28,8 +28,8 @@ abbrev pub rowBlock : ℕ → List ℕ → Block
 rowBlock kind l = record { kind = kind; fields = contents (typesOf kind) 0 l }
 
 -- a block of a kind whose fields were read
-abbrev pub blockOf : ℕ → Read (List Content) → Read Block
-blockOf kind r = andThen r (λ cs end. got (record { kind = kind; fields = cs }) end)
+abbrev pub blockRead : ℕ → Read (List Content) → Read Block
+blockRead kind r = andThen r (λ cs end. got (record { kind = kind; fields = cs }) end)
 
 -- a block's turn; nothing happens where none can be read
 abbrev pub noTurn : Place → ℕ → ℕ → Turned

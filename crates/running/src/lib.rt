@@ -12,7 +12,7 @@ ghost use Rattle.block.specs.Kinds.{allowed, bitRef, wordRef, typesOf, wordPin}
 ghost use Rattle.block.specs.Reading.{fieldsAt, blockAt};
 ghost use Rattle.expression.specs.Expression.{bitIn};
 ghost use Rattle.running.specs.Running.{ruled, signed, wordIn};
-ghost use Rattle.running.specs.Answers.{allAllowed, rowBlock, blockOf, noTurn, turnOf};
+ghost use Rattle.running.specs.Answers.{allAllowed, rowBlock, blockRead, noTurn, turnOf};
 
 // The value at a bit reference.
 fn bit(bits: &[bool; 234], r: u32) -> bool
@@ -202,7 +202,7 @@ fn none(p: Place, no: u8, at: usize) -> Turned
 
 // The turn of a BL whose expression stands at a place.
 fn turn_bl(s: &[u8], at: usize, p: Place, bits: &[bool; 234], blocks: &[u8; 200]) -> Turned
-    ensures { λ r. ⌜ ((g : Word → ℤ) (e : ℕ) → r ≡ turnOf (bitIn (now (bits .entry))) g e p (blockOf 0 (fieldsAt (now (blocks .entry)) (typesOf 0) 0 (now (s .entry)) at))) ⌝ }
+    ensures { λ r. ⌜ ((g : Word → ℤ) (e : ℕ) → r ≡ turnOf (bitIn (now (bits .entry))) g e p (blockRead 0 (fieldsAt (now (blocks .entry)) (typesOf 0) 0 (now (s .entry)) at))) ⌝ }
 {
     let v = expression::eval(s, at, 16, 63, bits, blocks);
     match v {
@@ -232,7 +232,7 @@ fn turn_row(
     blocks: &[u8; 200],
 ) -> Turned
     requires { ⌜ (kind < 13) × (0 < kind) ⌝ }
-    ensures { λ r. ⌜ r ≡ turnOf (bitIn (now (bits .entry))) (wordIn (now (words .entry))) e p (blockOf kind (fieldsAt (now (blocks .entry)) (typesOf kind) 0 (now (s .entry)) at)) ⌝ }
+    ensures { λ r. ⌜ r ≡ turnOf (bitIn (now (bits .entry))) (wordIn (now (words .entry))) e p (blockRead kind (fieldsAt (now (blocks .entry)) (typesOf kind) 0 (now (s .entry)) at)) ⌝ }
 {
     let row = block::read_row(s, at, kind, blocks);
     let fields = row.fields;
