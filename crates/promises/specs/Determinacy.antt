@@ -1,7 +1,10 @@
 -- Document 01, "What the contracts owe": "Each public function's contract gives one possible answer and one possible state for each input".
 -- `Learnt` of a function is what its contract tells a caller, as Rattle reads it off the source: of lifetimes, arguments, answer and what is
 -- lent, at exit.
+use mathlib.Core.List.{List}
 use mathlib.Core.Path.{_≡_}
+use Prim.Native.Nat.{ℕ}
+use denote.Ref.{now}
 use Rattle.wire.proofs.number.Reads as wire-number
 use Rattle.block.proofs.read_number.Reads as block-read-number
 use Rattle.block.proofs.head.Reads as block-head
@@ -38,10 +41,19 @@ use Rattle.hall.proofs.fresh.Reads as hall-fresh
 use Rattle.hall.proofs.accept.Reads as hall-accept
 use Rattle.hall.proofs.scan.Reads as hall-scan
 use Rattle.hall.proofs.take.Reads as hall-take
+use Rattle.recording.proofs.read_scan.Reads as recording-read-scan
+use Rattle.recording.proofs.write_line.Reads as recording-write-line
+use Rattle.recording.proofs.write_refused.Reads as recording-write-refused
+use Rattle.recording.proofs.step.Reads as recording-step
 
 -- any two answers that meet a contract on the same arguments are equal
 abbrev pub Determined : {K : Type 0} {A B E : K → Type 0} → ((κ : K) → A κ → B κ → E κ → Type 0) → Type 0
 Determined {K} {A} {B} {E} Learnt = (κ : K) (a : A κ) (x y : B κ) (u v : E κ) → Learnt κ a x u → Learnt κ a y v → x ≡ y
+
+-- the same of the answer and of what a buffer lent for writing holds at exit
+abbrev pub DeterminedWith : {K : Type 0} {A B E : K → Type 0} → ((κ : K) → E κ → List ℕ) → ((κ : K) → A κ → B κ → E κ → Type 0) → Type 0
+DeterminedWith {K} {A} {B} {E} lent Learnt =
+    (κ : K) (a : A κ) (x y : B κ) (u v : E κ) → Learnt κ a x u → Learnt κ a y v → (x ≡ y) × (lent κ u ≡ lent κ v)
 
 pub record Determinacy : Type 0 where
   pub wire-number : Determined wire-number.Learnt
@@ -80,3 +92,8 @@ pub record Determinacy : Type 0 where
   pub hall-accept : Determined hall-accept.Learnt
   pub hall-scan : Determined hall-scan.Learnt
   pub hall-take : Determined hall-take.Learnt
+  pub recording-read-scan : Determined recording-read-scan.Learnt
+  -- the buffer is the first parameter, and of `step` the fifth
+  pub recording-write-line : DeterminedWith (λ κ u. now (u .0)) recording-write-line.Learnt
+  pub recording-write-refused : DeterminedWith (λ κ u. now (u .0)) recording-write-refused.Learnt
+  pub recording-step : DeterminedWith (λ κ u. now (u .1 .1 .1 .1 .0)) recording-step.Learnt

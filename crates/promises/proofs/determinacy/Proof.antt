@@ -43,6 +43,10 @@ all =
       hall-accept = λ κ a x y u v h k. cc;
       hall-scan = λ κ a x y u v h k. cc;
       hall-take = λ κ a x y u v h k. cc;
+      recording-read-scan = λ κ a x y u v h k. cc;
+      recording-write-line = λ κ a x y u v h k. (h .place ∙ sym (k .place), h .bytes ∙ sym (k .bytes));
+      recording-write-refused = λ κ a x y u v h k. (h .place ∙ sym (k .place), h .bytes ∙ sym (k .bytes));
+      recording-step = λ κ a x y u v h k. (h .answer ∙ sym (k .answer), h .bytes ∙ sym (k .bytes));
     }
 
 returns : tie.Need-returns

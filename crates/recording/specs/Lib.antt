@@ -1,0 +1,4 @@
+pub mod Recording
+pub mod Listing
+pub mod Answers
+pub mod Windows

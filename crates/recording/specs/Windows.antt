@@ -1,0 +1,24 @@
+-- What listing a recording through a window rests on: a part of the recording shows what the whole shows there.
+use Prim.Native.Nat.{ℕ, _+_, _≤_}
+use mathlib.Core.Path.{_≡_}
+use mathlib.Core.List.{List}
+use lib.ListN.{take, drop}
+use Rattle.recording.specs.Recording.{Part, part, broken, scanAt, scanBytes}
+use Rattle.recording.specs.Listing.{programBytes, opening}
+use Rattle.recording.specs.Answers.{bytesOf}
+use Rattle.recording.specs.declared.Span.{Span}
+
+-- what stands at a place of what is left after k bytes, seen from the front
+abbrev pub shifted : {A : Type 0} → ℕ → Part A → Part A
+shifted k (part a next) = part a (k + next)
+shifted k broken = broken
+
+pub record Windows : Type 0 where
+  -- a scan is the same whatever comes after its most bytes
+  pub cut : (s : List ℕ) (at m : ℕ) → at + scanBytes ≤ m → scanAt (take m s) at ≡ scanAt s at
+  -- and whatever came before it
+  pub moved : (s : List ℕ) (k at : ℕ) → scanAt s (k + at) ≡ shifted k (scanAt (drop k s) at)
+  -- so through a span of a buffer a scan is what the span's own bytes begin with
+  pub seen : (buf : List ℕ) (a : Span) → scanAt (take (a .to) buf) (a .from) ≡ shifted (a .from) (scanAt (bytesOf a buf) 0)
+  -- what comes before the scans is the same whatever comes after its most bytes: a length of three and the longest program
+  pub opens : (s : List ℕ) (m : ℕ) → 3 + programBytes ≤ m → opening (take m s) ≡ opening s
