@@ -1,5 +1,7 @@
 pub mod Texts
 pub mod Scans
+pub mod Tellings
 pub mod Openings
 pub mod Streams
 pub mod Parts
+pub mod Rests

@@ -17,7 +17,7 @@ use Rattle.recording.specs.Recording.{Part, part, broken, andThen, short
 use Rattle.recording.specs.Listing.{programBytes, lengthOf, lengthIn, openedIn, opening}
 use Rattle.recording.specs.Answers.{bytesOf}
 use Rattle.recording.specs.declared.Span.{Span}
-use Rattle.recording.specs.Windows.{shifted, Windows}
+use Rattle.recording.specs.Windows.{shifted}
 use Rattle.recording.proofs.Scans.{number-within, Ends, short-ends}
 
 -- two tests come out alike
@@ -58,7 +58,7 @@ shorts-cut (suc n) s at m h =
     (then-same (at + 3) (shortOf (numberAt s at)) _ _ (short-ends (at + 3) (numberAt s at) (λ v next e. number-within s at e .1 .0))
     (λ v next k. rw (shorts-cut n s next m (omega arith))))
 
-scan-cut : (s : List ℕ) (at m : ℕ) → at + scanBytes ≤ m → scanAt (take m s) at ≡ scanAt s at
+pub scan-cut : (s : List ℕ) (at m : ℕ) → at + scanBytes ≤ m → scanAt (take m s) at ≡ scanAt s at
 unfolding scanAt
 scan-cut s at m h = rw (shorts-cut 11 s at m h)
 
@@ -81,7 +81,7 @@ group-moved d true true true g v next r = refl
 group-moved d true true false g v next r = refl
 group-moved d true false c g v next r = more-moved d g r
 
-test-moved : (s : List ℕ) (d at : ℕ) → ltb (d + at) (length s) ≡ ltb at (length (drop d s))
+pub test-moved : (s : List ℕ) (d at : ℕ) → ltb (d + at) (length s) ≡ ltb at (length (drop d s))
 test-moved s d at =
     let e : length (drop d s) ≡ length s - d = length-drop d s in
     same-test (d + at) (length s) at (length (drop d s)) (λ k. omega arith) (λ k. omega arith)
@@ -120,7 +120,7 @@ shorts-moved (suc n) s d at =
     (then-moved d (shortOf (numberAt (drop d s) at)) _ _
     (λ v next. rw (shorts-moved n s d next) (then-moved d (shortsAt n (drop d s) next) _ _ (λ vs end. refl))))
 
-scan-moved : (s : List ℕ) (d at : ℕ) → scanAt s (d + at) ≡ shifted d (scanAt (drop d s) at)
+pub scan-moved : (s : List ℕ) (d at : ℕ) → scanAt s (d + at) ≡ shifted d (scanAt (drop d s) at)
 unfolding scanAt
 scan-moved s d at = rw (shorts-moved 11 s d at) (then-moved d (shortsAt 11 (drop d s) at) _ _ (λ vs next. refl))
 
@@ -130,7 +130,7 @@ drop-take (suc at) m [] = rw (take-nil m, take-nil (m - suc at))
 drop-take (suc at) zero (x ∷ s) = let e : 0 - suc at ≡ 0 = omega arith in rw e
 drop-take (suc at) (suc m) (x ∷ s) = let e : suc m - suc at ≡ m - at = omega arith in rw e (drop-take at m s)
 
-scan-seen : (buf : List ℕ) (a : Span) → scanAt (take (a .to) buf) (a .from) ≡ shifted (a .from) (scanAt (bytesOf a buf) 0)
+pub scan-seen : (buf : List ℕ) (a : Span) → scanAt (take (a .to) buf) (a .from) ≡ shifted (a .from) (scanAt (bytesOf a buf) 0)
 scan-seen buf a = rw (drop-take (a .from) (a .to) buf, add-zero) at (scan-moved (take (a .to) buf) (a .from) 0)
 
 -- the program that stands within the first bytes
@@ -160,10 +160,7 @@ opened-cut s m (Got n at) h k = opened-by s n at m (ltb programBytes n) refl (h 
 opened-cut s m Bad h k = refl
 opened-cut s m Cut h k = refl
 
-opening-cut : (s : List ℕ) (m : ℕ) → 3 + programBytes ≤ m → opening (take m s) ≡ opening s
+pub opening-cut : (s : List ℕ) (m : ℕ) → 3 + programBytes ≤ m → opening (take m s) ≡ opening s
 unfolding opening lengthIn
 opening-cut s m h =
     rw (number-cut s 0 m (omega arith)) (opened-cut s m (numberAt s 0) (λ n at e. omega (arith, number-within s 0 e)) h)
-
-pub windows : Windows
-windows = record { cut = scan-cut; moved = scan-moved; seen = scan-seen; opens = opening-cut }

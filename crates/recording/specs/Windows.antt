@@ -4,7 +4,8 @@ use mathlib.Core.Path.{_≡_}
 use mathlib.Core.List.{List}
 use lib.ListN.{take, drop}
 use Rattle.recording.specs.Recording.{Part, part, broken, scanAt, scanBytes}
-use Rattle.recording.specs.Listing.{programBytes, opening}
+use Rattle.hall.specs.declared.State.{State}
+use Rattle.recording.specs.Listing.{programBytes, opening, linesAt}
 use Rattle.recording.specs.Answers.{bytesOf}
 use Rattle.recording.specs.declared.Span.{Span}
 
@@ -22,3 +23,6 @@ pub record Windows : Type 0 where
   pub seen : (buf : List ℕ) (a : Span) → scanAt (take (a .to) buf) (a .from) ≡ shifted (a .from) (scanAt (bytesOf a buf) 0)
   -- what comes before the scans is the same whatever comes after its most bytes: a length of three and the longest program
   pub opens : (s : List ℕ) (m : ℕ) → 3 + programBytes ≤ m → opening (take m s) ≡ opening s
+  -- what is printed from a place on is what is printed of the rest alone: nothing before it is needed any more
+  pub rest :
+      (program : List ℕ) (n : ℕ) (st : State) (s : List ℕ) (k at : ℕ) → linesAt n program st s (k + at) ≡ linesAt n program st (drop k s) at

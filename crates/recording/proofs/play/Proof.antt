@@ -1,6 +1,6 @@
 -- `recording::play` meets its contract. The loop's invariant: the span and what is told lie within their buffers, which stay as long as they were.
 use lib.Seq.{length-take-le}
-use Rattle.recording.proofs.Scans.{step-within}
+use Rattle.recording.proofs.Tellings.{step-within}
 use Prim.Native.Nat.{_≤_}
 use mathlib.Core.Path.{_≡_, sym}
 use native.Mathlib.Omega.{arith}

@@ -2,7 +2,7 @@
 use mathlib.Core.Path.{refl}
 use native.Mathlib.Nat.{add-zero}
 use borrow.Author.Tests.{not-true, not-false}
-use Rattle.recording.proofs.Scans.{told-end, told-bad, told-good}
+use Rattle.recording.proofs.Tellings.{told-end, told-bad, told-good}
 use borrow.Author.Needs.{needs}
 use Rattle.recording.proofs.step.Statement.{statement}
 use Rattle.recording.proofs.step.Tie as tie

@@ -1,5 +1,5 @@
 -- `recording::windows` meets its contract: the facts are laws.
-use Rattle.recording.proofs.Parts.{windows}
+use Rattle.recording.proofs.Rests.{windows}
 use Rattle.recording.proofs.windows.Statement.{statement}
 use Rattle.recording.proofs.windows.Tie as tie
 
