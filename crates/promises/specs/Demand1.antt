@@ -1,5 +1,6 @@
 -- "Any call, any content": every call answers, or refuses by the table of refusals, and no refusal is given otherwise. That it ends is proved of
--- every function by Rattle itself. For each call the rows below exclude one another, so each says exactly when its answer is given.
+-- every function by Rattle itself. For each call the rows below exclude one another (the two of 6 give one answer), so each says exactly when
+-- its answer is given.
 use mathlib.Core.Bool.{Bool, true, false}
 use mathlib.Core.List.{List}
 use mathlib.Core.Path.{_≡_}
