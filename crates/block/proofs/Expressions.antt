@@ -1,6 +1,6 @@
 -- Laws of expressions: what a node that is read tells, one level of the tree, and the nodes that it takes. Assumes nothing.
 use Prim.Native.Nat.{ℕ, zero, suc, _+_, _-_, _<_, _≤_}
-use mathlib.Core.Path.{_≡_, refl, subst}
+use mathlib.Core.Path.{_≡_, refl, subst, ap, _∙_}
 use mathlib.Core.Bool.{true}
 use mathlib.Core.List.{List}
 use native.Mathlib.Omega.{arith}
@@ -84,11 +84,11 @@ step k zero left s at = stop-deep _ _ left (headAt k 0 left s at) (sound k 0 lef
 step k (suc d) left s at = let e : suc d - 1 ≡ d = omega arith in simp e
 
 -- passing over a node's parts
-pub pass-one : (l : ℕ) (p : Read Expr) → passed l (andThen p (λ t n. got (inv t) n)) ≡ passed (l - 1) p
+pass-one : (l : ℕ) (p : Read Expr) → passed l (andThen p (λ t n. got (inv t) n)) ≡ passed (l - 1) p
 pass-one l (got t next) = let e : l - (nodes t + 1) ≡ l - 1 - nodes t = omega arith in rw e
 pass-one l (fault n at) = refl
 
-pub pass-fault :
+pass-fault :
     (l m : ℕ) (p : Read Expr) (f : Expr → ℕ → Read Expr) {n at : ℕ} → passed m p ≡ Fault n at → passed l (andThen p f) ≡ Fault n at
 pass-fault l m (got t next) f h = let z : _≡_ {A = ℕ} 0 1 = cc in absurd (omega arith)
 pass-fault l m (fault n at) f h = h
@@ -99,7 +99,7 @@ pass-second :
 pass-second l op a (got b next) = let e : l - (nodes a + nodes b + 1) ≡ l - 1 - nodes a - nodes b = omega arith in rw e
 pass-second l op a (fault n at) = refl
 
-pub pass-two :
+pass-two :
     (l op : ℕ) (p : Read Expr) (part : ℕ → ℕ → Read Expr) {next m : ℕ} → passed (l - 1) p ≡ Good next m →
     passed l (andThen p (λ a n. andThen (part (l - 1 - nodes a) n) (λ b n. got (gate op a b) n))) ≡ passed m (part m next)
 pass-two l op (got a n) part {next} {m} h =
@@ -107,6 +107,28 @@ pass-two l op (got a n) part {next} {m} h =
     let em : l - 1 - nodes a ≡ m = cc in
     rw (pass-second l op a (part (l - 1 - nodes a) n), en, em)
 pass-two l op (fault n at) part h = let z : _≡_ {A = ℕ} 0 1 = cc in absurd (omega arith)
+
+-- so that passing over an expression is passing on from its first node
+module _ (k : Known) (d l : ℕ) (s : List ℕ) (at : ℕ) where
+  level : passed l (exprAt k d l s at) ≡ passed l (grow (λ m n. exprAt k (d - 1) m s n) l (headAt k d l s at))
+  level = ap (passed l) (step k d l s at)
+
+  pub on-stop : {n p : ℕ} → headAt k d l s at ≡ Stop n p → passed l (exprAt k d l s at) ≡ Fault n p
+  on-stop e = level ∙ rw e
+
+  pub on-leaf : {r next : ℕ} → headAt k d l s at ≡ Leaf r next → passed l (exprAt k d l s at) ≡ Good next (l - 1)
+  on-leaf e = level ∙ rw e
+
+  pub on-one : {next : ℕ} → headAt k d l s at ≡ One next → passed l (exprAt k d l s at) ≡ passed (l - 1) (exprAt k (d - 1) (l - 1) s next)
+  on-one {next} e = level ∙ rw e (pass-one l (exprAt k (d - 1) (l - 1) s next))
+
+  pub on-two : {op next n m : ℕ} → headAt k d l s at ≡ Two op next → passed (l - 1) (exprAt k (d - 1) (l - 1) s next) ≡ Good n m
+      → passed l (exprAt k d l s at) ≡ passed m (exprAt k (d - 1) m s n)
+  on-two {op} {next} e h = level ∙ rw e (pass-two l op (exprAt k (d - 1) (l - 1) s next) (λ m n. exprAt k (d - 1) m s n) h)
+
+  pub on-fault : {op next n p : ℕ} → headAt k d l s at ≡ Two op next → passed (l - 1) (exprAt k (d - 1) (l - 1) s next) ≡ Fault n p
+      → passed l (exprAt k d l s at) ≡ Fault n p
+  on-fault {op} {next} e h = level ∙ rw e (pass-fault l (l - 1) (exprAt k (d - 1) (l - 1) s next) _ h)
 
 -- an expression has at most the nodes left
 abbrev Within : ℕ → Read Expr → Type 0

@@ -1,27 +1,16 @@
 -- The table of kinds: the code's rows are the definition's, by one test of each table. Assumes nothing.
 use mathlib.Core.Path.{_≡_, refl, sym, _∙_}
 use mathlib.Core.Bool.{Bool, true, false, _||_, Bool·beq}
-use mathlib.Core.List.{List, [], _∷_, _++_, map}
+use mathlib.Core.List.{List, []}
 use Prim.Native.Nat.{ℕ, _<_, _≤_}
 use native.Mathlib.Omega.{arith}
 use lib.Dec.{T, eqb, ltb, leb, ltb→lt, eqb→eq, leb→le}
-use lib.ListN.{length, getD, take, replicate, List·getD-eq-default}
+use lib.ListN.{length, getD, take, List·getD-eq-default}
 use borrow.Author.Tests.{ne-eqb}
 use lib.Seq.{getD-take}
-use Rattle.block.specs.Kinds.{nothing, Kind, kind, kinds, kindOf, typesOf}
+use Rattle.block.specs.Kinds.{nothing, kindOf, typesOf}
+use Rattle.block.specs.Answers.{rows}
 use Rattle.block.proofs.Table.{every, at}
-
-abbrev num : Bool → ℕ
-num true = 1
-num false = 0
-
--- a kind as the code's row of seven
-abbrev pub rowOf : Kind → List ℕ
-rowOf k = take 5 (k .types ++ replicate 5 nothing) ++ (k .memory ∷ num (k .hasWord) ∷ [])
-
--- the code's table
-abbrev pub rows : List (List ℕ)
-rows = map rowOf kinds
 
 same : (a b : Bool) → T (Bool·beq a b) → a ≡ b
 same true true t = refl
@@ -47,12 +36,16 @@ module _ (k : ℕ) (h : k < 13) where
   five : length (take 5 (getD rows k [])) ≡ 5
   five = eqb→eq _ _ (passes (λ k r. eqb (length (take 5 r)) 5) tt)
 
-  pub type-right : (i : ℕ) → i < 5 → getD (getD rows k []) i 0 ≡ getD (typesOf k) i nothing
+  type-right : (i : ℕ) → i < 5 → getD (getD rows k []) i 0 ≡ getD (typesOf k) i nothing
   unfolding right-type kindOf
   type-right i l =
       let e = five in
       let t = at (right-type k) 0 (take 5 (getD rows k [])) (passes (λ k r. every (right-type k) 0 0 (take 5 r)) tt) i (omega arith) in
       sym (getD-take 5 (getD rows k []) i 0 l) ∙ eqb→eq _ _ t
+
+  -- a row of the code's, at a column of types
+  pub column : {row : List ℕ} → row ≡ getD rows k [] → {i : ℕ} → i < 5 → getD row i 0 ≡ getD (typesOf k) i nothing
+  column e {i} l = rw e (type-right i l)
 
   pub types-few : length (typesOf k) ≤ 5
   unfolding kindOf

@@ -1,8 +1,9 @@
 -- A rule of a table, proved at all of its entries by one test that antt computes, one entry after the other. Assumes nothing.
-use mathlib.Core.Path.{_∙_, subst, sym}
+use mathlib.Core.Path.{_≡_, _∙_, subst, sym}
 use mathlib.Core.Bool.{Bool, true, false, _&&_}
 use mathlib.Core.List.{List, [], _∷_}
-use Prim.Native.Nat.{ℕ, zero, suc, _+_, _<_}
+use Prim.Native.Nat.{ℕ, zero, suc, _+_, _<_, _≤_}
+use native.Mathlib.Omega.{arith}
 use native.Mathlib.Nat.{add-zero, zero-add, add-suc, suc-add, le-of-suc-le-suc, not-suc-le-zero}
 use lib.Dec.{T}
 use lib.ListN.{length, getD}
@@ -30,3 +31,15 @@ module _ {A : Type 0} (f : ℕ → A → Bool) (d : A) where
 
   pub at : (xs : List A) → T (every 0 xs) → (k : ℕ) → k < length xs → T (f k (getD xs k d))
   at xs t k h = subst (λ (m : ℕ). T (f m (getD xs k d))) (zero-add k) (from xs 0 t k h)
+
+-- a number that is none of the first n: where a table's last row is the one that is left
+abbrev pub Past : ℕ → ℕ → Type 0
+Past zero k = Unit {0}
+Past (suc n) k = Past n k × (k ≡ n → ⊥)
+
+past : (n : ℕ) {k : ℕ} → Past n k → n ≤ k
+past zero p = omega arith
+past (suc n) (p, ne) = let h = past n p in omega arith
+
+pub last : (n : ℕ) {k : ℕ} → Past n k → k < suc n → k ≡ n
+last n p l = let h = past n p in omega arith

@@ -1,10 +1,11 @@
 -- What the functions of this crate answer, in terms of what is read.
-use mathlib.Core.List.{List, map}
+use mathlib.Core.List.{List, [], _∷_, _++_, map}
 use Prim.Native.Nat.{ℕ, _+_, _-_}
-use lib.ListN.{replicate}
+use lib.ListN.{replicate, take}
 use lib.Seq.{sets}
 use Rattle.block.specs.Blocks.{Expr, Content, Block, nodes, nodesOf, nodesIn, codeOf}
-use Rattle.block.specs.Kinds.{settingOf, memoryOf, figureOf, markOf}
+use Rattle.wire.specs.Choice.{pick}
+use Rattle.block.specs.Kinds.{nothing, Kind, kinds, settingOf, memoryOf, figureOf, markOf}
 use Rattle.block.specs.Reading.{Read, got, fault}
 use Rattle.block.specs.declared.Number.{Number}
 use Rattle.block.specs.declared.Number.the-variants.{Got as NumberGot, Fault as NumberFault}
@@ -16,6 +17,13 @@ use Rattle.block.specs.declared.End.the-variants.{Next, Fault as EndFaul
 use Rattle.block.specs.declared.Row.{Row}
 use Rattle.block.specs.declared.Brief.{Brief}
 use Rattle.block.specs.declared.Brief.the-variants.{Got as BriefGot, Fault as BriefFault}
+
+-- a kind as a row of seven: the types of its fields and `nothing` after them, its memory, and 1 if it has a word output
+abbrev pub tableRow : Kind → List ℕ
+tableRow k = take 5 (k .types ++ replicate 5 nothing) ++ (k .memory ∷ pick (k .hasWord) 1 0 ∷ [])
+
+abbrev pub rows : List (List ℕ)
+rows = map tableRow kinds
 
 abbrev pub numberOf : Read ℕ → Number
 numberOf (got v next) = NumberGot v next

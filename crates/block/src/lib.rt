@@ -1,11 +1,12 @@
 // One block read from its bytes: numbers by their types, expressions, and the fields of every kind by one table.
 use wire::Num;
 ghost use mathlib.Core.Path.{_≡_};
-ghost use Prim.Native.Nat.{_<_, _≤_};
+ghost use Prim.Native.Nat.{_<_};
+ghost use mathlib.Core.List.{[]};
 ghost use lib.ListN.{getD};
-ghost use Rattle.block.specs.Kinds.{allowed, bitRef, figureFor, kindOf, limits, markFor, nothing, typesOf};
+ghost use Rattle.block.specs.Kinds.{allowed, bitRef, figureFor, kindOf, limits, markFor, typesOf};
 ghost use Rattle.block.specs.Reading.{bitKnown, known, typedAt, headAt, exprAt, contentAt, fieldsAt, blockAt};
-ghost use Rattle.block.specs.Answers.{numberOf, passed, fieldRead, blankRow, rowOf, briefOf};
+ghost use Rattle.block.specs.Answers.{numberOf, passed, fieldRead, blankRow, rowOf, briefOf, rows};
 
 // The numbers of refusal that reading gives.
 pub const BAD: u8 = 1;
@@ -50,47 +51,56 @@ const EXPRESSION: u8 = 13;
 const NOTHING: u8 = 14;
 
 // Each type's numbers are below this.
-const LIMITS: [u32; 13] = [
-    234,
-    66536,
-    65536,
-    32768,
-    3,
-    2,
-    6,
-    65536,
-    32768,
-    201,
-    13,
-    33,
-    240,
-];
+fn limit_of(ty: u8) -> u32
+    requires { ⌜ ty < 13 ⌝ }
+    ensures { λ r. ⌜ r ≡ getD limits ty 0 ⌝ }
+{
+    match ty {
+        PIN => 234,
+        WORD => 66536,
+        SIGNED => 65536,
+        TIME => 32768,
+        UNIT => 3,
+        EITHER => 2,
+        RELATION => 6,
+        DIVISOR => 65536,
+        OFF_TIME => 32768,
+        BLOCK_COUNT => 201,
+        KIND_NUMBER => 13,
+        ALARM_COUNT => 33,
+        _ => 240,
+    }
+}
 
-// A row for each kind, BL, SR, PL, AL, DL, OS, FL, CN, UD, CP, OG, ZC, ST: the types of its fields, its memory, and 1 if it
-// has a word output.
-const KINDS: [[u8; 7]; 13] = [
-    [EXPRESSION, NOTHING, NOTHING, NOTHING, NOTHING, 10, 0],
-    [PIN, PIN, EITHER, NOTHING, NOTHING, 14, 0],
-    [PIN, EITHER, NOTHING, NOTHING, NOTHING, 10, 0],
-    [PIN, PIN, NOTHING, NOTHING, NOTHING, 13, 0],
-    [PIN, PIN, UNIT, TIME, TIME, 19, 0],
-    [PIN, PIN, UNIT, TIME, NOTHING, 17, 0],
-    [PIN, UNIT, TIME, OFF_TIME, NOTHING, 19, 0],
-    [PIN, PIN, TIME, NOTHING, NOTHING, 16, 1],
-    [PIN, PIN, PIN, PIN, SIGNED, 22, 1],
-    [PIN, RELATION, WORD, WORD, NOTHING, 17, 0],
-    [PIN, SIGNED, DIVISOR, SIGNED, WORD, 22, 1],
-    [PIN, EITHER, WORD, WORD, WORD, 20, 0],
-    [PIN, WORD, WORD, WORD, NOTHING, 19, 0],
-];
+// The table of kinds. A row for each, BL, SR, PL, AL, DL, OS, FL, CN, UD, CP, OG, ZC, ST: the types of its fields, its memory,
+// and 1 if it has a word output.
+fn row_of(kind: u8) -> [u8; 7]
+    requires { ⌜ kind < 13 ⌝ }
+    ensures { λ r. ⌜ r ≡ getD rows kind [] ⌝ }
+{
+    match kind {
+        0 => [EXPRESSION, NOTHING, NOTHING, NOTHING, NOTHING, 10, 0],
+        1 => [PIN, PIN, EITHER, NOTHING, NOTHING, 14, 0],
+        2 => [PIN, EITHER, NOTHING, NOTHING, NOTHING, 10, 0],
+        3 => [PIN, PIN, NOTHING, NOTHING, NOTHING, 13, 0],
+        4 => [PIN, PIN, UNIT, TIME, TIME, 19, 0],
+        5 => [PIN, PIN, UNIT, TIME, NOTHING, 17, 0],
+        6 => [PIN, UNIT, TIME, OFF_TIME, NOTHING, 19, 0],
+        7 => [PIN, PIN, TIME, NOTHING, NOTHING, 16, 1],
+        8 => [PIN, PIN, PIN, PIN, SIGNED, 22, 1],
+        9 => [PIN, RELATION, WORD, WORD, NOTHING, 17, 0],
+        10 => [PIN, SIGNED, DIVISOR, SIGNED, WORD, 22, 1],
+        11 => [PIN, EITHER, WORD, WORD, WORD, 20, 0],
+        _ => [PIN, WORD, WORD, WORD, NOTHING, 19, 0],
+    }
+}
 
 // Whether v may stand as a number of type ty after the setting `before`.
 fn allow(ty: u8, before: u32, v: u32) -> bool
     requires { ⌜ ty < 13 ⌝ }
     ensures { λ r. ⌜ r ≡ allowed ty before v ⌝ }
 {
-    let t = ty as usize;
-    if LIMITS[t] <= v {
+    if limit_of(ty) <= v {
         return false;
     }
     if ty == WORD {
@@ -218,35 +228,44 @@ pub enum Passed {
     Fault { no: u8, at: usize },
 }
 
-// Passes over the expression at a place.
+// Passes over the expression at a place: from node to node, and over the first of two parts by itself.
 pub fn pass(s: &[u8], at: usize, depth: u8, left: u8, blocks: &[u8; 200]) -> Passed
     ensures { λ r. ⌜ r ≡ passed left (exprAt (now (blocks .entry)) depth left (now (s .entry)) at) ⌝ }
 {
-    let h = head(s, at, depth, left, blocks);
-    match h {
-        Node::Stop { no, at: place } => Passed::Fault { no, at: place },
-        Node::Leaf { r: _, next } => Passed::Good {
-            next,
-            left: left - 1,
-        },
-        Node::One { next } => pass(s, next, depth - 1, left - 1, blocks),
-        Node::Two { op: _, next } => {
-            let a = pass(s, next, depth - 1, left - 1, blocks);
-            match a {
-                Passed::Good { next: n1, left: l1 } => pass(s, n1, depth - 1, l1, blocks),
-                Passed::Fault { no: _, at: _ } => a,
+    let mut from = at;
+    let mut levels = depth;
+    let mut nodes = left;
+    loop {
+        let h = head(s, from, levels, nodes, blocks);
+        match h {
+            Node::Stop { no, at: place } => {
+                return Passed::Fault { no, at: place };
+            }
+            Node::Leaf { r: _, next } => {
+                nodes -= 1;
+                return Passed::Good { next, left: nodes };
+            }
+            Node::One { next } => {
+                from = next;
+                levels -= 1;
+                nodes -= 1;
+                continue;
+            }
+            Node::Two { op: _, next } => {
+                levels -= 1;
+                let a = pass(s, next, levels, nodes - 1, blocks);
+                match a {
+                    Passed::Good { next: n1, left: l1 } => {
+                        from = n1;
+                        nodes = l1;
+                    }
+                    Passed::Fault { no: _, at: _ } => {
+                        return a;
+                    }
+                }
             }
         }
     }
-}
-
-// The type of column i of a kind's row.
-fn type_of(kind: u8, i: usize) -> u8
-    requires { ⌜ (kind < 13) × (i < 5) ⌝ }
-    ensures { λ r. ⌜ r ≡ getD (typesOf kind) i nothing ⌝ }
-{
-    let k = kind as usize;
-    KINDS[k][i]
 }
 
 // The memory of a kind, of a BL without its nodes.
@@ -254,8 +273,8 @@ fn memory_of(kind: u8) -> u32
     requires { ⌜ kind < 13 ⌝ }
     ensures { λ r. ⌜ r ≡ kindOf kind .memory ⌝ }
 {
-    let k = kind as usize;
-    KINDS[k][5] as u32
+    let row = row_of(kind);
+    row[5] as u32
 }
 
 // Whether a kind has a word output.
@@ -263,8 +282,8 @@ fn has_word(kind: u8) -> bool
     requires { ⌜ kind < 13 ⌝ }
     ensures { λ r. ⌜ r ≡ kindOf kind .hasWord ⌝ }
 {
-    let k = kind as usize;
-    KINDS[k][6] == 1
+    let row = row_of(kind);
+    row[6] == 1
 }
 
 // What is known of a block of a kind that is in the program: 2 where it has a word, else 1.
@@ -354,13 +373,14 @@ pub fn read_row(s: &[u8], start: usize, kind: u8, blocks: &[u8; 200]) -> Row
     requires { ⌜ kind < 13 ⌝ }
     ensures { λ r. ⌜ r ≡ rowOf (fieldsAt (now (blocks .entry)) (typesOf kind) 0 (now (s .entry)) start) ⌝ }
 {
+    let row = row_of(kind);
     let mut fields = [0u32; 5];
     let mut nodes: u32 = 0;
     let mut before: u32 = 0;
     let mut at = start;
     let mut i: usize = 0;
     while i < 5 {
-        let ty = type_of(kind, i);
+        let ty = row[i];
         if ty == NOTHING {
             return Row {
                 fields,

@@ -1,11 +1,11 @@
 -- Laws of numbers, each by induction on the number of groups. Assumes nothing.
-use Prim.Native.Nat.{ℕ, zero, suc, _+_, _*_, _-_, _%_, _/_, _^_, _<_, _≤_}
-use mathlib.Core.Path.{_≡_, refl, sym, subst, _∙_}
+use Prim.Native.Nat.{ℕ, zero, suc, _+_, _*_, _%_, _/_, _^_, _<_, _≤_}
+use mathlib.Core.Path.{_≡_, refl, subst}
 use mathlib.Core.List.{List}
 use native.Mathlib.Omega.{arith}
-use native.Mathlib.Nat.{pow-suc, one-le-pow, pow-zero, pow-le-pow-right}
+use native.Mathlib.Nat.{pow-suc, one-le-pow, pow-zero}
 use lib.ListN.{length}
-use lib.Dec.{ltb, lit<}
+use lib.Dec.{ltb}
 use borrow.Author.Tests.{ltb-true, ltb-false, lt-ltb, le-ltb}
 use Rattle.wire.specs.Choice.{pick}
 use Rattle.wire.specs.declared.Num.{Num}
@@ -13,19 +13,6 @@ use Rattle.wire.specs.declared.Num.the-variants.{Got, Bad, Cut}
 use Rattle.wire.specs.Number.{byteAt, more, notZero, groupsAt, groupsOf}
 use Rattle.wire.specs.Facts.{Stands, Bytes, NumberFacts}
 use Rattle.wire.proofs.Choice.{pick-case}
-
--- one group, where a group is left
-pub step :
-    (k least : ℕ) (s : List ℕ) (at : ℕ) → (k ≡ 0 → ⊥) →
-    groupsAt k least s at ≡
-    pick (ltb at (length s))
-    (pick (ltb (byteAt s at) 128)
-    (pick (ltb (byteAt s at) least) Bad (Got (byteAt s at) (at + 1)))
-    (more (byteAt s at % 128) (groupsAt (k - 1) notZero s (at + 1))))
-    Cut
-unfolding groupsAt
-step zero least s at ne = absurd (ne refl)
-step (suc k) least s at ne = let e : suc k - 1 ≡ k = omega arith in rw e
 
 -- what an answer of at most k groups, from `at` on, tells of its value and of the place after it
 abbrev Fair : ℕ → List ℕ → ℕ → Num → Type 0
@@ -59,14 +46,6 @@ pub takes :
     (k least : ℕ) (s : List ℕ) (at v next : ℕ) → groupsAt k least s at ≡ Got v next →
     (at < next) × ((next ≤ at + k) × (next ≤ length s))
 takes k least s at v next e = subst (Fair k s at) e (fair k least s at) .1
-
--- a value that at most k groups hold is one that j groups hold, k at most j
-pub small :
-    (k j least : ℕ) (s : List ℕ) (at v next : ℕ) (r : Num) → r ≡ groupsAt k least s at → r ≡ Got v next → k ≤ j → v < 128 ^ j
-small k j least s at v next r e f h =
-    let w : v < 128 ^ k = below k least s at v next (sym e ∙ f) in
-    let p : 128 ^ k ≤ 128 ^ j = pow-le-pow-right (lit< tt) h in
-    omega arith
 
 -- reading what is written: `least` may be anything up to the value
 back-from :

@@ -1,8 +1,11 @@
 // Numbers on the wire: one to three groups of seven bits, lowest first, in shortest form.
 ghost use mathlib.Core.Path.{_≡_};
-ghost use Prim.Native.Nat.{_≤_};
-ghost use Rattle.wire.specs.Number.{groupsAt, numberAt};
+ghost use Prim.Native.Nat.{_<_};
+ghost use Rattle.wire.specs.Number.{groupsAt, more, notZero, numberAt};
 ghost use Rattle.wire.specs.Facts.{NumberFacts};
+
+// The least last group after the first.
+const NOT_ZERO: u8 = 1;
 
 // What stands at a place: a number and the place after it; a badly formed number; or one that the end of the data cuts.
 pub enum Num {
@@ -11,40 +14,47 @@ pub enum Num {
     Cut,
 }
 
-// A number of at most `left` groups, whose last group is at least `least`.
-fn groups(s: &[u8], at: usize, left: u8, least: u8) -> Num
-    requires { ⌜ left ≤ 3 ⌝ }
-    ensures { λ r. ⌜ r ≡ groupsAt left least (now (s .entry)) at ⌝ }
+// The number whose first group is `low`, where its other groups, one or two, stand from `at` on.
+fn longer(s: &[u8], at: usize, low: u32) -> Num
+    requires { ⌜ low < 128 ⌝ }
+    ensures { λ r. ⌜ r ≡ more low (groupsAt 2 notZero (now (s .entry)) at) ⌝ }
 {
-    if left == 0 {
-        return Num::Bad;
-    }
     if s.len() <= at {
         return Num::Cut;
     }
     let b = s[at];
     if b < 128 {
-        if b < least {
-            Num::Bad
-        } else {
-            Num::Got(b as u32, at + 1)
+        if b < NOT_ZERO {
+            return Num::Bad;
         }
-    } else {
-        let low = (b % 128) as u32;
-        let rest = groups(s, at + 1, left - 1, 1);
-        match rest {
-            Num::Got(v, next) => Num::Got(low + v * 128, next),
-            Num::Bad => Num::Bad,
-            Num::Cut => Num::Cut,
-        }
+        return Num::Got(low + (b as u32) * 128, at + 1);
     }
+    if s.len() <= at + 1 {
+        return Num::Cut;
+    }
+    let c = s[at + 1];
+    if c < 128 {
+        if c < NOT_ZERO {
+            return Num::Bad;
+        }
+        let high = ((b % 128) as u32) + (c as u32) * 128;
+        return Num::Got(low + high * 128, at + 2);
+    }
+    Num::Bad
 }
 
 // The number at a place.
 pub fn number(s: &[u8], at: usize) -> Num
     ensures { λ r. ⌜ r ≡ numberAt (now (s .entry)) at ⌝ }
 {
-    groups(s, at, 3, 0)
+    if at < s.len() {
+        let a = s[at];
+        if a < 128 {
+            return Num::Got(a as u32, at + 1);
+        }
+        return longer(s, at + 1, (a % 128) as u32);
+    }
+    Num::Cut
 }
 
 // The facts of numbers, as a theorem: it does nothing when called.

@@ -1,12 +1,13 @@
--- `block::pass` meets its contract, by recursion on the depth left: each return is one level of the definition.
-use Prim.Native.Nat.{ℕ, _<_, _-_}
+-- `block::pass` meets its contract, by recursion on the depth left. The loop's invariant: what is left to pass over is the whole.
+use Prim.Native.Nat.{ℕ, _<_, _≤_}
 use native.Mathlib.Omega.{arith}
-use mathlib.Core.Path.{_∙_, sym}
+use mathlib.Core.Path.{_≡_, refl, _∙_, sym}
 use borrow.Author.Needs.{needs}
 use borrow.Fn.Kinds.{In}
 use borrow.Fn.PlainCycle.{Measures, is, falls, and}
 use Rattle.block.specs.Reading.{exprAt}
-use Rattle.block.proofs.Expressions.{sound, step, pass-one, pass-fault, pass-two}
+use Rattle.block.specs.Answers.{passed}
+use Rattle.block.proofs.Expressions.{sound, on-stop, on-leaf, on-one, on-two, on-fault}
 use Rattle.block.proofs.pass.Reads as pass
 use Rattle.block.proofs.pass.Kinds as pass-kinds
 use Rattle.block.proofs.+pass.Lts-pass as pass-lts
@@ -23,6 +24,13 @@ pass-at t = and 2 pass-kinds.ps (is 2 pass-kinds.ps μ-pass t) pass.Pre
 abbrev pass-below : ℕ → In 2 pass-kinds.ps
 pass-below t = and 2 pass-kinds.ps (falls 2 pass-kinds.ps _<_ μ-pass t) pass.Pre
 
+abbrev pass-Inv-loop : pass-lts.InvT-loop
+pass-Inv-loop s at depth left blocks from₀ levels₀ nodes₀ from levels nodes =
+    (levels ≤ depth) × (passed left (exprAt blocks depth left s at) ≡ passed nodes (exprAt blocks levels nodes s from))
+
+abbrev pass-μ-loop : pass-lts.MeasureT-loop
+pass-μ-loop s at depth left blocks from₀ levels₀ nodes₀ from levels nodes = levels
+
 pub +pass-spec : {M : Type 1} → statement M
 +pass-spec = close μ-pass λ t. pass-lts.spec (
   head-reads.Asked,
@@ -32,25 +40,26 @@ pub +pass-spec : {M : Type 1} → statement M
 )
     (pass-at t)
     pass.Post
+    pass-Inv-loop
+    pass-μ-loop
+    (λ c. (omega arith, refl))
     (λ c κs. search needs)
     (λ c. search needs)
+    (λ c. sym (c .before .before .before .before .loop .inv .1 ∙ on-stop _ _ _ _ _ (sym (c .before .before .before .head .ensures) ∙ c .before .h .given .1)))
     (λ c. search needs)
     (λ c. omega (arith, sound _ _ _ _ _ (sym (c .before .before .before .head .ensures) ∙ c .before .h2 .given .1)))
+    (λ c. sym (c .before .before .before .before .loop .inv .1 ∙ on-leaf _ _ _ _ _ (sym (c .before .before .before .head .ensures) ∙ c .before .h2 .given .1)))
     (λ c. search needs)
     (λ c. omega (arith, sound _ _ _ _ _ (sym (c .before .before .before .head .ensures) ∙ c .before .h3 .given .1)))
     (λ c. omega (arith, sound _ _ _ _ _ (sym (c .before .before .before .head .ensures) ∙ c .before .h3 .given .1)))
-    (λ c κs. (omega (arith, sound _ _ _ _ _ (sym (c .before .before .before .head .ensures) ∙ c .before .h3 .given .1)), tt))
+    (λ c. omega (arith, sound _ _ _ _ _ (sym (c .before .before .before .head .ensures) ∙ c .before .h3 .given .1)))
+    (λ c. (omega (arith, c .before .before .before .before .loop .inv .0), c .before .before .before .before .loop .inv .1 ∙ on-one _ _ _ _ _ (sym (c .before .before .before .head .ensures) ∙ c .before .h3 .given .1)))
     (λ c. search needs)
     (λ c. omega (arith, sound _ _ _ _ _ (sym (c .before .before .before .head .ensures) ∙ c .before .h4 .given .1)))
     (λ c. omega (arith, sound _ _ _ _ _ (sym (c .before .before .before .head .ensures) ∙ c .before .h4 .given .1)))
-    (λ c κs. (omega (arith, sound _ _ _ _ _ (sym (c .before .before .before .head .ensures) ∙ c .before .h4 .given .1)), tt))
+    (λ c κs. (omega (arith, c .before .before .before .before .loop .inv .0, sound _ _ _ _ _ (sym (c .before .before .before .head .ensures) ∙ c .before .h4 .given .1)), tt))
     (λ c. search needs)
     (λ c. omega (arith, sound _ _ _ _ _ (sym (c .before .before .before .before .before .before .before .head .ensures) ∙ c .before .before .before .before .before .h4 .given .1)))
-    (λ c κs. (omega (arith, sound _ _ _ _ _ (sym (c .before .before .before .before .before .before .before .head .ensures) ∙ c .before .before .before .before .before .h4 .given .1)), tt))
+    (λ c. (omega (arith, c .before .before .before .before .before .before .before .before .loop .inv .0), c .before .before .before .before .before .before .before .before .loop .inv .1 ∙ on-two _ _ _ _ _ (sym (c .before .before .before .before .before .before .before .head .ensures) ∙ c .before .before .before .before .before .h4 .given .1) (sym (c .before .before .before .pass .ensures) ∙ c .before .a .given .1)))
     (λ c. search needs)
-    (λ c. rw (step, (sym (c .before .before .before .head .ensures) ∙ c .before .h .given .1)))
-    (λ c. rw (step, (sym (c .before .before .before .head .ensures) ∙ c .before .h2 .given .1)))
-    (λ c. rw (step, (sym (c .before .before .before .before .head .ensures) ∙ c .before .before .h3 .given .1), pass-one) (c .pass .ensures))
-    (λ c. let a = c .before .before .before .before .before .before .before .before .before .before .args in
-    rw (step, (sym (c .before .before .before .before .before .before .before .before .head .ensures) ∙ c .before .before .before .before .before .before .h4 .given .1), pass-two (a .left) (c .before .before .before .before .before .before .h4 .given .0 .0) _ (λ l n. exprAt (a .blocks .now) (a .depth - 1) l (a .s .now) n) (sym (c .before .before .before .before .pass2 .ensures) ∙ c .before .before .a .given .1)) (c .pass3 .ensures))
-    (λ c. rw (step, (sym (c .before .before .before .before .before .before .head .ensures) ∙ c .before .before .before .before .h4 .given .1), pass-fault _ _ _ _ (sym (c .before .before .pass2 .ensures) ∙ c .enum-told .given .1)) (c .enum-told .given .1))
+    (λ c. c .enum-told .given .1 ∙ sym (c .before .before .before .before .before .before .before .loop .inv .1 ∙ on-fault _ _ _ _ _ (sym (c .before .before .before .before .before .before .head .ensures) ∙ c .before .before .before .before .h4 .given .1) (sym (c .before .before .pass .ensures) ∙ c .enum-told .given .1)))

@@ -8,7 +8,6 @@ pub has-word-spec : {M : Type 1} → statement M
 has-word-spec =
     tie.close
     (tie.spec
+    (λ c κs. search needs)
     (λ c. search needs)
-    (λ c. search needs)
-    (λ c. search needs)
-    (λ c. word-right _ (c .before .pre)))
+    (λ c. rw (c .row-of .ensures) (word-right _ (c .before .pre))))

@@ -9,8 +9,7 @@ pub memory-of-spec : {M : Type 1} → statement M
 memory-of-spec =
     tie.close
     (tie.spec
+    (λ c κs. search needs)
     (λ c. search needs)
-    (λ c. search needs)
-    (λ c. search needs)
-    (λ c. omega (arith, memory-right _ (c .before .pre), memory-light _ (c .before .pre)))
-    (λ c. memory-right _ (c .before .pre)))
+    (λ c. rw (c .row-of .ensures) (omega (arith, memory-right _ (c .before .pre), memory-light _ (c .before .pre))))
+    (λ c. rw (c .row-of .ensures) (memory-right _ (c .before .pre))))
