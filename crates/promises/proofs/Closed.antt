@@ -1,7 +1,7 @@
 -- A good state stays good in every answer: a refusal hands it back, a scan's places and rises and a take keep it good. So no call from
 -- fresh is refused with 5: acceptance refuses with 4 at most, and the state is good. Assumes nothing.
 use Prim.Native.Nat.{ℕ, _≤_}
-use mathlib.Core.Path.{_≡_, refl, ap, _∙_}
+use mathlib.Core.Path.{_≡_, ap, _∙_}
 use mathlib.Core.Bool.{true}
 use mathlib.Core.List.{List, [], _∷_}
 use native.Mathlib.Omega.{arith}

@@ -1,12 +1,12 @@
 -- A journal keeps what the ledger says: what was handed out, then what is held, are the rises kept, in order; and as many are missed.
 -- Assumes nothing.
 use mathlib.Core.Path.{_≡_, refl, sym, ap, _∙_}
-use mathlib.Core.Bool.{Bool, true, false, not}
+use mathlib.Core.Bool.{Bool, true, false}
 use mathlib.Core.List.{List, [], _∷_, _++_, map, append-assoc, append-nil}
 use Prim.Native.Nat.{ℕ, zero, suc, _+_, _-_, _≤_, _<_}
 use native.Mathlib.Omega.{arith}
 use native.Mathlib.Numerals.{add-one}
-use borrow.Author.Tests.{ltb-true, ltb-false, lt-ltb, le-ltb, eqb-true, eqb-false}
+use borrow.Author.Tests.{ltb-true, lt-ltb, le-ltb, eqb-true, eqb-false}
 use lib.Dec.{ltb, eqb}
 use lib.ListN.{length, take, drop, getD, set, length-set, length-take, length-drop, length-append, List·getD-eq-default}
 use lib.Seq.{take-suc-set, take-at, length-take-le, getD-append-seam}
@@ -15,7 +15,7 @@ use Rattle.journal.specs.declared.Stamp.{Stamp}
 use Rattle.journal.specs.declared.Journal.{Journal}
 use Rattle.journal.specs.declared.Taken.{Taken}
 use Rattle.wire.specs.Choice.{pick}
-use Rattle.journal.specs.Journal.{entryOf, zeroEntry, freshJournal, stored, storedAll, taken}
+use Rattle.journal.specs.Journal.{entryOf, zeroEntry, stored, storedAll, taken}
 use Rattle.promises.specs.History.{Ledger, entered, enteredAll, crossed}
 use Rattle.promises.specs.Demand3.{held}
 

@@ -9,7 +9,7 @@ use lib.ListN.{length, getD, List·getD-map}
 use Rattle.wire.proofs.Choice.{pick-case}
 use Rattle.block.specs.Blocks.{Content, bit, word, number, tree, Block, codeOf}
 use Rattle.block.specs.Kinds.{pin, blockCount, alarmCount, kindNumber, bitRef, limits, nothing, contentOf, kindOf, settingOf, typesOf}
-use Rattle.block.specs.Reading.{Read, got, fault, andThen, Known, typedAt, fieldsAt, blockAt}
+use Rattle.block.specs.Reading.{got, Known, typedAt, fieldsAt, blockAt}
 use Rattle.block.proofs.Expressions.{typed-below}
 use Rattle.block.proofs.Gives.{Gives, gives-by, gives-then, gives-after, Long, long-cons}
 use Rattle.program.specs.Program.{Program, blocksAt, referencesAt, endAt, alarmsAt, programAt}

@@ -1,20 +1,18 @@
 -- Every scan and every take comes to a row of the table of refusals, or is answered. Assumes nothing.
-use mathlib.Core.Path.{_≡_, refl, sym, _∙_}
-use mathlib.Core.Bool.{Bool, true, false, not, _||_}
+use mathlib.Core.Path.{_≡_, refl}
+use mathlib.Core.Bool.{Bool, true, false}
 use mathlib.Core.List.{List}
-use Prim.Native.Nat.{ℕ, _+_, _-_, _^_, _<_, _≤_}
+use Prim.Native.Nat.{ℕ, _+_, _-_, _^_, _<_}
 use native.Mathlib.Omega.{arith}
 use borrow.Author.Tests.{ltb-true, ltb-false, eqb-true, eqb-false}
 use lib.Dec.{ltb, eqb}
-use Rattle.block.specs.Reading.{Read, got, fault}
-use Rattle.program.specs.Program.{Program, programAt}
-use Rattle.program.specs.Acceptance.{everyBlock, accepted}
+use Rattle.program.specs.Acceptance.{accepted}
 use Rattle.program.proofs.Faults.{Good, good, accepted-good}
 use Rattle.hall.specs.declared.State.{State}
 use Rattle.hall.specs.State.{goodState}
 use Rattle.hall.specs.Scan.{Inputs}
-use Rattle.hall.specs.Calls.{refusedScan, refusedTake, late, scanOf, takeOf}
-use Rattle.promises.specs.Demand1.{RefusedScan, RefusedTake, Scanning, refuses-program, refuses-state, refuses-time, refuses-missed, answers, Taking, refuses, hands}
+use Rattle.hall.specs.Calls.{refusedScan, late, scanOf, takeOf}
+use Rattle.promises.specs.Demand1.{RefusedScan, Scanning, refuses-program, refuses-state, refuses-time, refuses-missed, answers, Taking, refuses, hands}
 
 refused-so : (s : State) (n at : ℕ) → RefusedScan s n at (refusedScan s n at)
 refused-so s n at = record { state = refl; refusal = refl; place = refl; alarms = refl; steps = refl; rises = refl }

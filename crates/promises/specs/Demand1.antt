@@ -1,11 +1,10 @@
 -- "Any call, any content": every call answers, or refuses by the table of refusals, and no refusal is given otherwise. That it ends is proved of
 -- every function by Rattle itself. For each call the rows below exclude one another (the two of 6 give one answer), so each says exactly when
 -- its answer is given.
-use mathlib.Core.Bool.{Bool, true, false}
+use mathlib.Core.Bool.{true, false}
 use mathlib.Core.List.{List}
 use mathlib.Core.Path.{_≡_}
 use Prim.Native.Nat.{ℕ, _+_, _-_, _^_, _<_, _≤_}
-use lib.ListN.{length}
 use Rattle.block.specs.Refusals.{outside, astray, overMemory}
 use Rattle.block.specs.Reading.{got, fault}
 use Rattle.program.specs.declared.Acceptance.{Acceptance}
@@ -13,8 +12,7 @@ use Rattle.program.specs.Program.{Program, programAt, memory, figure}
 use Rattle.program.specs.Acceptance.{refused, taken, everyBlock, knownOf, accepted}
 use Rattle.program.specs.Places.{Placed}
 use Rattle.program.specs.References.{allThere}
-use Rattle.journal.specs.Journal.{zeroEntry}
-use Rattle.journal.specs.Journal.{taken as takenFrom}
+use Rattle.journal.specs.Journal.{zeroEntry, taken as takenFrom}
 use Rattle.hall.specs.declared.State.{State}
 use Rattle.hall.specs.declared.Scanned.{Scanned}
 use Rattle.hall.specs.declared.Handed.{Handed}

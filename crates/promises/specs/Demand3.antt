@@ -10,7 +10,7 @@ use Rattle.journal.specs.Journal.{zeroEntry}
 use Rattle.hall.specs.declared.State.{State}
 use Rattle.hall.specs.State.{freshState}
 use Rattle.hall.specs.Calls.{takeOf}
-use Rattle.promises.specs.History.{Call, stateAfter, handedOut, answeredOf, Ledger, Past, freshPast, pastAfter, programOf}
+use Rattle.promises.specs.History.{Call, stateAfter, handedOut, answeredOf, Past, freshPast, pastAfter, programOf}
 
 -- the entries that a journal holds, oldest first
 abbrev pub held : Journal → List Entry

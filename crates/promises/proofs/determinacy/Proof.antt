@@ -1,5 +1,5 @@
 -- `promises::determinacy` meets its contract: each contract says that the answer is one definition of the arguments.
-use mathlib.Core.Path.{_≡_, sym, _∙_}
+use mathlib.Core.Path.{sym, _∙_}
 use Rattle.promises.specs.Determinacy.{Determinacy}
 use Rattle.promises.proofs.determinacy.Statement.{statement}
 use Rattle.promises.proofs.determinacy.Tie as tie
