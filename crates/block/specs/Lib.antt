@@ -3,3 +3,4 @@ pub mod Blocks
 pub mod Kinds
 pub mod Reading
 pub mod Answers
+pub mod Asking

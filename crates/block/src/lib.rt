@@ -269,7 +269,7 @@ pub fn pass(s: &[u8], at: usize, depth: u8, left: u8, blocks: &[u8; 200]) -> Pas
 }
 
 // The memory of a kind, of a BL without its nodes.
-fn memory_of(kind: u8) -> u32
+pub fn memory_of(kind: u8) -> u32
     requires { ⌜ kind < 13 ⌝ }
     ensures { λ r. ⌜ r ≡ kindOf kind .memory ⌝ }
 {
@@ -287,7 +287,7 @@ fn has_word(kind: u8) -> bool
 }
 
 // What is known of a block of a kind that is in the program: 2 where it has a word, else 1.
-fn mark_of(kind: u8) -> u8
+pub fn mark_of(kind: u8) -> u8
     requires { ⌜ kind < 13 ⌝ }
     ensures { λ r. ⌜ r ≡ markFor kind ⌝ }
 {

@@ -3,3 +3,4 @@ pub mod Acceptance
 pub mod Answers
 pub mod Places
 pub mod References
+pub mod Trial
