@@ -192,7 +192,7 @@ module _ (j k : Known) (s : List ℕ) where
       again-after inAlarms (typedAt j alarmCount 0 s at) (typedAt k alarmCount 0 s at) _ _ (typed-again alarmCount 0 at)
       (λ n m. again-then inAlarms inAlarms (referencesAt j n s m) (referencesAt k n s m) _ _ (references-again n m) end-again end-never)
 
-  program-again : AgainOf inWhole (programAt j s) (programAt k s)
+  pub program-again : AgainOf inWhole (programAt j s) (programAt k s)
   unfolding programAt known inProgram
   program-again =
       again-after inWhole (typedAt j blockCount 0 s 0) (typedAt k blockCount 0 s 0) _ _ (typed-again blockCount 0 0)
@@ -204,7 +204,7 @@ module _ (j k : Known) (s : List ℕ) where
 abbrev kindAt : List Block → ℕ → ℕ
 kindAt bs i = getD bs i (record { kind = 0; fields = [] }) .kind
 
-mark-at : (bs : List Block) (n i : ℕ) → getD (map markOf bs ++ replicate n 0) i 0 ≡ pick (ltb i (length bs)) (markFor (kindAt bs i)) 0
+pub mark-at : (bs : List Block) (n i : ℕ) → getD (map markOf bs ++ replicate n 0) i 0 ≡ pick (ltb i (length bs)) (markFor (kindAt bs i)) 0
 mark-at [] zero i = rw (le-ltb i 0 (omega arith))
 mark-at [] (suc n) zero = refl
 mark-at [] (suc n) (suc i) = mark-at [] n i ∙ rw (le-ltb i 0 (omega arith), le-ltb (suc i) 0 (omega arith))
@@ -223,7 +223,7 @@ known-bits bs on = refl
 known-bits bs (input i) = refl
 known-bits bs (output i) = rw (mark-at bs (200 - length bs) i) (mark-tells (ltb i (length bs)) (kindOf (kindAt bs i) .hasWord) .0)
 
-known-words : (bs : List Block) (w : Word) → wordKnown (knownOf bs) w ≡ wordThere bs w
+pub known-words : (bs : List Block) (w : Word) → wordKnown (knownOf bs) w ≡ wordThere bs w
 unfolding knownOf markFor
 known-words bs (analog i) = refl
 known-words bs (wordOf i) = rw (mark-at bs (200 - length bs) i) (mark-tells (ltb i (length bs)) (kindOf (kindAt bs i) .hasWord) .1)

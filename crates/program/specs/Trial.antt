@@ -24,8 +24,11 @@ unfoldable pub answers : ℕ → List ℕ → Known → Bool
 answers zero asked k = true
 answers (suc n) asked k = answers n asked k && (eqb (getD asked n 0) 0 || eqb (getD k n 0) 2)
 
--- whether a program that was read so is accepted
+-- whether blocks that were read so are accepted
+unfoldable pub acceptable : List Block → Bool
+acceptable bs = answers (length bs) (askedBy bs (replicate 200 0)) (knownOf bs) && leb (memory bs) 5000
+
+-- whether a program that was read so is
 unfoldable pub tried : Read Program → Bool
 tried (fault n at) = false
-tried (got p end) =
-    answers (length (p .blocks)) (askedBy (p .blocks) (replicate 200 0)) (knownOf (p .blocks)) && leb (memory (p .blocks)) 5000
+tried (got p end) = acceptable (p .blocks)
