@@ -1,10 +1,11 @@
 -- Laws of the evaluator: what a node makes of its parts' answers, and how many steps there can be. Assumes nothing.
-use Prim.Native.Nat.{ℕ, _+_, _-_, _≤_}
+use Prim.Native.Nat.{ℕ, _+_, _-_, _*_, _/_, _%_, _^_, _≤_}
 use mathlib.Core.Path.{_≡_, refl, sym, ap, _∙_}
 use mathlib.Core.Bool.{Bool, true, false, not, _&&_, _||_, Bool·beq}
 use mathlib.Core.List.{List}
 use native.Mathlib.Omega.{arith}
 use lib.Dec.{eqb}
+use mir.Val.{boolByte}
 use Rattle.wire.specs.Choice.{pick}
 use Rattle.wire.proofs.Choice.{pick-case}
 use Rattle.block.specs.Blocks.{Bit, Expr, ref, inv, gate, nodes}
@@ -12,7 +13,7 @@ use Rattle.block.specs.Reading.{Read, got, fault, andThen, Known, exprAt}
 use Rattle.block.specs.Answers.{passed}
 use Rattle.block.specs.declared.Passed.the-variants.{Good, Fault}
 use Rattle.block.proofs.Expressions.{few}
-use Rattle.expression.specs.Expression.{gateOf, skipsOf, value, steps, valued, joined}
+use Rattle.expression.specs.Expression.{gateOf, skipsOf, digit, truthTable, skipTable, value, steps, valued, joined}
 use Rattle.expression.specs.declared.Value.the-variants.{Done, Broken}
 
 pub steps-nodes : (f : Bit → Bool) (t : Expr) → steps f t ≤ nodes t
@@ -48,6 +49,34 @@ skip-same op x y z = go (eqb op 1) (eqb op 2) (eqb op 3) (eqb op 4)
     go false false true s e = let w : _≡_ {A = ℕ} 0 1 = cc in absurd (omega arith)
     go false false false true e = ap not (skip-and x y z e)
     go false false false false e = ap not (skip-or x y z e)
+
+-- a bit of a table is the outcome that it stands for
+digit-small : (b : Bool) → digit b ≤ 1
+digit-small true = omega arith
+digit-small false = omega arith
+
+digit-one : (n : ℕ) (b : Bool) → n ≡ digit b → eqb n 1 ≡ b
+digit-one n true e = rw e
+digit-one n false e = rw e
+
+pub bit-small : (b : Bool) → boolByte b ≤ 1
+bit-small true = omega arith
+bit-small false = omega arith
+
+module _ (f : Bool → Bool → Bool) where
+  digits-small : ((digit (f false false) ≤ 1) × (digit (f false true) ≤ 1)) × ((digit (f true false) ≤ 1) × (digit (f true true) ≤ 1))
+  digits-small = ((digit-small (f false false), digit-small (f false true)), (digit-small (f true false), digit-small (f true true)))
+
+  pub truth-bit : (x y : Bool) → eqb (truthTable f / 2 ^ (2 * boolByte x + boolByte y) % 2) 1 ≡ f x y
+  truth-bit false false = digit-one (truthTable f / 1 % 2) (f false false) (omega (arith, digits-small))
+  truth-bit false true = digit-one (truthTable f / 2 % 2) (f false true) (omega (arith, digits-small))
+  truth-bit true false = digit-one (truthTable f / 4 % 2) (f true false) (omega (arith, digits-small))
+  truth-bit true true = digit-one (truthTable f / 8 % 2) (f true true) (omega (arith, digits-small))
+
+module _ (f : Bool → Bool) where
+  pub skip-bit : (x : Bool) → eqb (skipTable f / 2 ^ boolByte x % 2) 1 ≡ f x
+  skip-bit false = digit-one (skipTable f / 1 % 2) (f false) (omega (arith, digit-small (f false), digit-small (f true)))
+  skip-bit true = digit-one (skipTable f / 2 % 2) (f true) (omega (arith, digit-small (f false), digit-small (f true)))
 
 module _ (f : Bit → Bool) where
   -- NOT

@@ -1,7 +1,7 @@
 -- Document 01, "One scan", BL: what an expression comes to, and in how many steps.
-use mathlib.Core.Bool.{Bool, false, not, _&&_, _||_, Bool·beq}
+use mathlib.Core.Bool.{Bool, true, false, not, _&&_, _||_, Bool·beq}
 use mathlib.Core.List.{List}
-use Prim.Native.Nat.{ℕ, _+_, _-_}
+use Prim.Native.Nat.{ℕ, _+_, _-_, _*_}
 use lib.ListN.{getD}
 use lib.Dec.{eqb}
 use Rattle.wire.specs.Choice.{pick}
@@ -27,6 +27,16 @@ skipsOf op x =
     (pick (eqb op 3) false
     (pick (eqb op 4) (not x)
     x)))
+
+-- The same two as numbers (ours): bit 2x + y is what an operator makes of x and y; bit x is whether the second part is skipped after x
+abbrev pub digit : Bool → ℕ
+digit b = pick b 1 0
+
+abbrev pub truthTable : (Bool → Bool → Bool) → ℕ
+truthTable f = digit (f false false) + 2 * digit (f false true) + 4 * digit (f true false) + 8 * digit (f true true)
+
+abbrev pub skipTable : (Bool → Bool) → ℕ
+skipTable f = digit (f false) + 2 * digit (f true)
 
 -- the value of an expression, where bit references read as f
 abbrev pub value : (Bit → Bool) → Expr → Bool

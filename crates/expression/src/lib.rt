@@ -2,59 +2,49 @@
 use block::Node;
 use block::Passed;
 ghost use mathlib.Core.Path.{_≡_};
-ghost use mathlib.Core.Bool.{_&&_, _||_};
 ghost use Prim.Native.Nat.{_<_, _≤_, _-_};
 ghost use Rattle.block.specs.Reading.{exprAt};
-ghost use Rattle.expression.specs.Expression.{gateOf, skipsOf, bitIn, valued, joined};
+ghost use Rattle.expression.specs.Expression.{gateOf, skipsOf, truthTable, skipTable, bitIn, valued, joined};
+
+// What an operator of two parts makes of x and y, as bit 2x + y of a number.
+fn truths_of(op: u32) -> u32
+    ensures { λ r. ⌜ r ≡ truthTable (gateOf op) ⌝ }
+{
+    match op {
+        1 => 8,
+        2 => 14,
+        3 => 6,
+        4 => 7,
+        _ => 1,
+    }
+}
 
 // What an operator of two parts makes of them.
 fn gate(op: u32, x: bool, y: bool) -> bool
     ensures { λ r. ⌜ r ≡ gateOf op x y ⌝ }
 {
-    if op == 1 {
-        return both(x, y);
-    }
-    if op == 2 {
-        return either(x, y);
-    }
-    if op == 3 {
-        return x != y;
-    }
-    if op == 4 {
-        return !both(x, y);
-    }
-    !either(x, y)
+    let k = 2 * (x as u32) + (y as u32);
+    (truths_of(op) >> k) % 2 == 1
 }
 
-fn both(x: bool, y: bool) -> bool
-    ensures { λ r. ⌜ r ≡ (x && y) ⌝ }
+// Whether an operator whose first part came to x leaves its second part unvisited, as bit x of a number.
+fn skips_of(op: u32) -> u32
+    ensures { λ r. ⌜ r ≡ skipTable (skipsOf op) ⌝ }
 {
-    if x { y } else { false }
-}
-
-fn either(x: bool, y: bool) -> bool
-    ensures { λ r. ⌜ r ≡ (x || y) ⌝ }
-{
-    if x { true } else { y }
+    match op {
+        1 => 1,
+        2 => 2,
+        3 => 0,
+        4 => 1,
+        _ => 2,
+    }
 }
 
 // Whether the second part is left unvisited.
 fn skips(op: u32, x: bool) -> bool
     ensures { λ r. ⌜ r ≡ skipsOf op x ⌝ }
 {
-    if op == 1 {
-        return !x;
-    }
-    if op == 2 {
-        return x;
-    }
-    if op == 3 {
-        return false;
-    }
-    if op == 4 {
-        return !x;
-    }
-    x
+    (skips_of(op) >> (x as u32)) % 2 == 1
 }
 
 // The value of an expression, its steps, the place after it and the nodes left; or a refusal and its place.
@@ -99,20 +89,20 @@ pub fn eval(
             match a {
                 Value::Done {
                     on: x,
-                    steps: p,
+                    steps: q,
                     next: n1,
                     left: l1,
                 } => Value::Done {
                     on: !x,
-                    steps: p + 1,
+                    steps: q + 1,
                     next: n1,
                     left: l1,
                 },
-                Value::Broken { no: _, at: _ } => a,
+                Value::Broken { no, at: place } => Value::Broken { no, at: place },
             }
         }
         Node::Two { op, next } => {
-            let a = eval(s, next, depth - 1, left - 1, bits, blocks);
+            let a = part(s, next, depth - 1, left - 1, bits, blocks);
             match a {
                 Value::Done {
                     on: x,
@@ -120,7 +110,7 @@ pub fn eval(
                     next: n1,
                     left: l1,
                 } => second(s, n1, depth - 1, l1, bits, blocks, op, x, p),
-                Value::Broken { no: _, at: _ } => a,
+                Value::Broken { no, at: place } => Value::Broken { no, at: place },
             }
         }
     }
@@ -153,7 +143,7 @@ fn second(
             Passed::Fault { no, at: place } => Value::Broken { no, at: place },
         };
     }
-    let b = eval(s, at, depth, left, bits, blocks);
+    let b = part(s, at, depth, left, bits, blocks);
     match b {
         Value::Done {
             on: y,
@@ -166,6 +156,25 @@ fn second(
             next,
             left: l,
         },
-        Value::Broken { no: _, at: _ } => b,
+        Value::Broken { no, at: place } => Value::Broken { no, at: place },
+    }
+}
+
+// A part of an operator: a leaf is answered at once, anything else is evaluated.
+fn part(s: &[u8], at: usize, depth: u8, left: u8, bits: &[bool; 234], blocks: &[u8; 200]) -> Value
+    ensures { λ r. ⌜ r ≡ valued (bitIn (now (bits .entry))) left (exprAt (now (blocks .entry)) depth left (now (s .entry)) at) ⌝ }
+{
+    let h = block::head(s, at, depth, left, blocks);
+    match h {
+        Node::Leaf { r, next } => {
+            let k = r as usize;
+            Value::Done {
+                on: bits[k],
+                steps: 1,
+                next,
+                left: left - 1,
+            }
+        }
+        _ => eval(s, at, depth, left, bits, blocks),
     }
 }

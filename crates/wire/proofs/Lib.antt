@@ -1,3 +1,4 @@
 pub mod Choice
+pub mod Copies
 pub mod Every
 pub mod Laws

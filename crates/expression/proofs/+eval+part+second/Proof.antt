@@ -1,4 +1,4 @@
--- `expression::eval` and `expression::second` meet their contracts, by recursion on the depth left: each return is one level of the definition.
+-- `expression::eval`, `part` and `second` meet their contracts, by recursion on the depth left: each return is one level of the definition.
 use Rattle.expression.proofs.Laws.{value-not, value-broken, value-two, join-skipped, join-lost, join-both, join-broken, steps-few}
 use Rattle.expression.specs.Expression.{bitIn}
 use Rattle.block.proofs.Expressions.{sound, step}
@@ -12,22 +12,28 @@ use borrow.Fn.Kinds.{In}
 use borrow.Fn.PlainCycle.{Measures, is, falls, and}
 use Rattle.expression.proofs.eval.Reads as eval
 use Rattle.expression.proofs.eval.Kinds as eval-kinds
-use Rattle.expression.proofs.+eval+second.Lts-eval as eval-lts
+use Rattle.expression.proofs.+eval+part+second.Lts-eval as eval-lts
+use Rattle.expression.proofs.part.Reads as part
+use Rattle.expression.proofs.part.Kinds as part-kinds
+use Rattle.expression.proofs.+eval+part+second.Lts-part as part-lts
 use Rattle.expression.proofs.second.Reads as second
 use Rattle.expression.proofs.second.Kinds as second-kinds
-use Rattle.expression.proofs.+eval+second.Lts-second as second-lts
+use Rattle.expression.proofs.+eval+part+second.Lts-second as second-lts
 use Rattle.block.proofs.head.Reads as head-reads
 use Rattle.block.proofs.pass.Reads as pass-reads
 use Rattle.expression.proofs.gate.Reads as gate-reads
 use Rattle.expression.proofs.skips.Reads as skips-reads
-use Rattle.expression.proofs.+eval+second.{statement}
-use Rattle.expression.proofs.+eval+second.Tie.{close}
+use Rattle.expression.proofs.+eval+part+second.{statement}
+use Rattle.expression.proofs.+eval+part+second.Tie.{close}
 
 abbrev μ-eval : Measures 3 eval-kinds.ps ℕ
-μ-eval κs a = a .1 .1 .0 * 2
+μ-eval κs a = a .1 .1 .0 * 3
+
+abbrev μ-part : Measures 3 part-kinds.ps ℕ
+μ-part κs a = a .1 .1 .0 * 3 + 1
 
 abbrev μ-second : Measures 3 second-kinds.ps ℕ
-μ-second κs a = a .1 .1 .0 * 2 + 1
+μ-second κs a = a .1 .1 .0 * 3 + 2
 
 abbrev eval-at : ℕ → In 3 eval-kinds.ps
 eval-at t = and 3 eval-kinds.ps (is 3 eval-kinds.ps μ-eval t) eval.Pre
@@ -35,18 +41,26 @@ eval-at t = and 3 eval-kinds.ps (is 3 eval-kinds.ps μ-eval t) eval.Pre
 abbrev eval-below : ℕ → In 3 eval-kinds.ps
 eval-below t = and 3 eval-kinds.ps (falls 3 eval-kinds.ps _<_ μ-eval t) eval.Pre
 
+abbrev part-at : ℕ → In 3 part-kinds.ps
+part-at t = and 3 part-kinds.ps (is 3 part-kinds.ps μ-part t) part.Pre
+
+abbrev part-below : ℕ → In 3 part-kinds.ps
+part-below t = and 3 part-kinds.ps (falls 3 part-kinds.ps _<_ μ-part t) part.Pre
+
 abbrev second-at : ℕ → In 3 second-kinds.ps
 second-at t = and 3 second-kinds.ps (is 3 second-kinds.ps μ-second t) second.Pre
 
 abbrev second-below : ℕ → In 3 second-kinds.ps
 second-below t = and 3 second-kinds.ps (falls 3 second-kinds.ps _<_ μ-second t) second.Pre
 
-pub +eval+second-spec : {M : Type 1} → statement M
-+eval+second-spec = close μ-eval μ-second (λ t. eval-lts.spec (
+pub +eval+part+second-spec : {M : Type 1} → statement M
++eval+part+second-spec = close μ-eval μ-part μ-second (λ t. eval-lts.spec (
   head-reads.Asked,
   head-reads.Learnt,
   eval-below t,
   eval.Post,
+  part-below t,
+  part.Post,
   second-below t,
   second.Post,
 )
@@ -71,14 +85,26 @@ pub +eval+second-spec : {M : Type 1} → statement M
     (λ c κs. (omega (arith, sound _ _ _ _ _ (sym (c .before .before .before .head .ensures) ∙ c .before .h4 .given .1)), tt))
     (λ c. search needs)
     (λ c. omega (arith, sound _ _ _ _ _ (sym (c .before .before .before .before .before .before .before .head .ensures) ∙ c .before .before .before .before .before .h4 .given .1)))
-    (λ c κs. (omega (arith, sound _ _ _ _ _ (sym (c .before .before .before .before .before .before .before .head .ensures) ∙ c .before .before .before .before .before .h4 .given .1)), omega (arith, steps-few _ _ _ _ _ _ (sym (c .before .before .before .eval2 .ensures) ∙ c .before .a2 .given .1))))
+    (λ c κs. (omega (arith, sound _ _ _ _ _ (sym (c .before .before .before .before .before .before .before .head .ensures) ∙ c .before .before .before .before .before .h4 .given .1)), omega (arith, steps-few _ _ _ _ _ _ (sym (c .before .before .before .part .ensures) ∙ c .before .a3 .given .1))))
     (λ c. search needs)
     (λ c. rw (step, (sym (c .before .before .before .head .ensures) ∙ c .before .h .given .1)))
     (λ c. rw (step, (sym (c .before .before .before .before .head .ensures) ∙ c .before .before .h2 .given .1), bit-code))
     (λ c. let a = c .before .before .before .before .before .before .before .before .before .args in rw (step, (sym (c .before .before .before .before .before .before .before .head .ensures) ∙ c .before .before .before .before .before .h3 .given .1)) (value-not (bitIn (a .bits .now)) (a .left) (exprAt (a .blocks .now) (a .depth - 1) (a .left - 1) (a .s .now) (c .before .before .before .before .before .h3 .given .0 .0)) (sym (c .before .before .before .eval .ensures) ∙ c .before .a .given .1)))
-    (λ c. rw (step, (sym (c .before .before .before .before .before .before .head .ensures) ∙ c .before .before .before .before .h3 .given .1), value-broken _ _ _ _ _ (sym (c .before .before .eval .ensures) ∙ c .enum-told .given .1)) (c .enum-told .given .1))
-    (λ c. let a = c .before .before .before .before .before .before .before .before .before .before .args in rw (step, (sym (c .before .before .before .before .before .before .before .before .head .ensures) ∙ c .before .before .before .before .before .before .h4 .given .1), value-two (bitIn (a .bits .now)) (a .left) (c .before .before .before .before .before .before .h4 .given .0 .0) _ (λ l n. exprAt (a .blocks .now) (a .depth - 1) l (a .s .now) n) (sym (c .before .before .before .before .eval2 .ensures) ∙ c .before .before .a2 .given .1)) (c .second .ensures))
-    (λ c. rw (step, (sym (c .before .before .before .before .before .before .head .ensures) ∙ c .before .before .before .before .h4 .given .1), value-broken _ _ _ _ _ (sym (c .before .before .eval2 .ensures) ∙ c .enum-told2 .given .1)) (c .enum-told2 .given .1)))
+    (λ c. rw (step, (sym (c .before .before .before .before .before .before .before .head .ensures) ∙ c .before .before .before .before .before .h3 .given .1), value-broken _ _ _ _ _ (sym (c .before .before .before .eval .ensures) ∙ c .before .a2 .given .1)))
+    (λ c. let a = c .before .before .before .before .before .before .before .before .before .before .args in rw (step, (sym (c .before .before .before .before .before .before .before .before .head .ensures) ∙ c .before .before .before .before .before .before .h4 .given .1), value-two (bitIn (a .bits .now)) (a .left) (c .before .before .before .before .before .before .h4 .given .0 .0) _ (λ l n. exprAt (a .blocks .now) (a .depth - 1) l (a .s .now) n) (sym (c .before .before .before .before .part .ensures) ∙ c .before .before .a3 .given .1)) (c .second .ensures))
+    (λ c. rw (step, (sym (c .before .before .before .before .before .before .before .head .ensures) ∙ c .before .before .before .before .before .h4 .given .1), value-broken _ _ _ _ _ (sym (c .before .before .before .part .ensures) ∙ c .before .a4 .given .1))))
+    (λ t. part-lts.spec
+    (head-reads.Asked, head-reads.Learnt, eval-below t, eval.Post)
+    (part-at t)
+    part.Post
+    (λ c κs. search needs)
+    (λ c. search needs)
+    (λ c. search needs)
+    (λ c. omega (arith, sound _ _ _ _ _ (sym (c .before .before .before .head .ensures) ∙ c .before .h .given .1)))
+    (λ c. omega (arith, sound _ _ _ _ _ (sym (c .before .before .before .before .head .ensures) ∙ c .before .before .h .given .1)))
+    (λ c κs. (omega arith, tt))
+    (λ c. rw (step, (sym (c .before .before .before .before .head .ensures) ∙ c .before .before .h .given .1), bit-code))
+    (λ c. c .eval .ensures))
     λ t. second-lts.spec (
       skips-reads.Asked,
       skips-reads.Learnt,
@@ -86,8 +112,8 @@ pub +eval+second-spec : {M : Type 1} → statement M
       pass-reads.Learnt,
       gate-reads.Asked,
       gate-reads.Learnt,
-      eval-below t,
-      eval.Post,
+      part-below t,
+      part.Post,
     )
     (second-at t)
     second.Post
@@ -102,8 +128,8 @@ pub +eval+second-spec : {M : Type 1} → statement M
     (λ c κs. (omega arith, tt))
     (λ c. search needs)
     (λ c κs. search needs)
-    (λ c. omega (arith, c .before .before .before .before .before .before .before .before .pre .1, steps-few _ _ _ _ _ _ (sym (c .before .before .before .before .eval .ensures) ∙ c .before .before .b3 .given .1)))
-    (λ c. omega (arith, c .before .before .before .before .before .before .before .before .pre .1, steps-few _ _ _ _ _ _ (sym (c .before .before .before .before .eval .ensures) ∙ c .before .before .b3 .given .1)))
+    (λ c. omega (arith, c .before .before .before .before .before .before .before .before .pre .1, steps-few _ _ _ _ _ _ (sym (c .before .before .before .before .part .ensures) ∙ c .before .before .b3 .given .1)))
+    (λ c. omega (arith, c .before .before .before .before .before .before .before .before .pre .1, steps-few _ _ _ _ _ _ (sym (c .before .before .before .before .part .ensures) ∙ c .before .before .b3 .given .1)))
     (λ c. search needs)
-    (λ c. rw (c .gate2 .ensures) (join-both _ _ _ _ _ _ _ _ _ (sym (c .before .before .before .before .before .before .skips .ensures) ∙ c .before .before .before .before .before .if1 .left) (sym (c .before .before .before .before .eval .ensures) ∙ c .before .before .b3 .given .1)))
-    (λ c. c .enum-told .given .1 ∙ join-broken _ _ _ _ _ _ _ _ _ (sym (c .before .before .eval .ensures) ∙ c .enum-told .given .1))
+    (λ c. rw (c .gate2 .ensures) (join-both _ _ _ _ _ _ _ _ _ (sym (c .before .before .before .before .before .before .skips .ensures) ∙ c .before .before .before .before .before .if1 .left) (sym (c .before .before .before .before .part .ensures) ∙ c .before .before .b3 .given .1)))
+    (λ c. join-broken _ _ _ _ _ _ _ _ _ (sym (c .before .before .before .part .ensures) ∙ c .before .b4 .given .1))

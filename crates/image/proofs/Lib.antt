@@ -1,0 +1,4 @@
+pub mod Listed
+pub mod Copies
+pub mod Within
+pub mod Turns
