@@ -130,6 +130,14 @@ module _ (k : Known) (d l : ℕ) (s : List ℕ) (at : ℕ) where
       → passed l (exprAt k d l s at) ≡ Fault n p
   on-fault {op} {next} e h = level ∙ rw e (pass-fault l (l - 1) (exprAt k (d - 1) (l - 1) s next) _ h)
 
+-- and over an operator of two parts whose first is a leaf, from behind the leaf
+pub on-two-leaf :
+    (k : Known) (d l : ℕ) (s : List ℕ) (at : ℕ) {op next r n : ℕ} → headAt k d l s at ≡ Two op next → headAt k (d - 1) (l - 1) s next ≡ Leaf r n →
+    passed l (exprAt k d l s at) ≡ passed (l - 2) (exprAt k (d - 1) (l - 2) s n)
+on-two-leaf k d l s at {next = next} e f =
+    let h : l - 1 - 1 ≡ l - 2 = omega arith in
+    rw h at (on-two k d l s at e (on-leaf k (d - 1) (l - 1) s next f))
+
 -- an expression has at most the nodes left
 abbrev Within : ℕ → Read Expr → Type 0
 Within l (got t next) = nodes t ≤ l

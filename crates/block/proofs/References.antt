@@ -7,9 +7,9 @@ use lib.Dec.{ltb, leb, eqb}
 use lib.ListN.{getD}
 use borrow.Author.Tests.{eqb-true, eqb-false, ltb-true, ltb-false, leb-true, leb-false, lt-ltb, le-ltb, ne-eqb}
 use Rattle.wire.proofs.Choice.{pick-case, both}
-use Rattle.block.specs.Blocks.{Bit, off, on, input, output, Word, analog, wordOf, constant, bit, word, number, nodesOf, bitCode, wordCode, codeOf}
+use Rattle.block.specs.Blocks.{Bit, off, on, input, output, Word, analog, wordOf, constant, nodesOf, bitCode, wordCode, codeOf}
 use Rattle.block.specs.Kinds.{pin, wordPin, limits, allowed, bitRef, wordRef, contentOf, settingOf}
-use Rattle.block.specs.Reading.{Known, bitKnown, wordKnown, known}
+use Rattle.block.specs.Reading.{Known, bitKnown, wordKnown}
 
 -- by the four ranges of a bit reference
 pub bit-cases :
@@ -65,7 +65,7 @@ leb-not a b = go (leb a b) refl
     go true e = rw (le-ltb b a (leb-true a b e))
     go false e = rw (lt-ltb b a (leb-false a b e))
 
--- what a number is in a field: its own code, no node, and a setting where it is no reference
+-- what a number is in a field: its own code, no node, and where it is no reference, a setting
 module _ (ty v : ℕ) where
   pub content-code : codeOf (contentOf ty v) ≡ v
   unfolding contentOf
@@ -78,12 +78,6 @@ module _ (ty v : ℕ) where
   content-nodes =
       pick-case (λ c. nodesOf c ≡ 0) (eqb ty pin) (λ _. refl)
       (λ _. pick-case (λ c. nodesOf c ≡ 0) (eqb ty wordPin) (λ _. refl) (λ _. refl))
-
-  pub content-reference : ty ≤ 1 → settingOf (contentOf ty v) ≡ 0
-  unfolding contentOf
-  content-reference h =
-      pick-case (λ c. settingOf c ≡ 0) (eqb ty pin) (λ _. refl)
-      (λ e. pick-case (λ c. settingOf c ≡ 0) (eqb ty wordPin) (λ _. refl) (λ f. absurd (omega (arith, eqb-false ty 0 e, eqb-false ty 1 f))))
 
   pub content-setting : 1 < ty → settingOf (contentOf ty v) ≡ v
   unfolding contentOf

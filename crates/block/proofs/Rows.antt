@@ -1,54 +1,143 @@
 -- Laws of fields and rows: a field's answer, and one more field of a row. Assumes nothing.
-use Prim.Native.Nat.{ℕ, suc, _+_, _*_, _-_, _<_, _≤_}
-use mathlib.Core.Path.{_≡_, refl, subst, _∙_}
+use Prim.Native.Nat.{ℕ, zero, suc, _+_, _*_, _-_, _<_, _≤_}
+use mathlib.Core.Path.{_≡_, refl, sym, subst, _∙_}
+use mathlib.Core.Bool.{Bool, true, false, not, _&&_, _||_}
 use mathlib.Core.List.{List, [], _∷_}
 use native.Mathlib.Omega.{arith}
 use native.Mathlib.Nat.{add-assoc, add-zero, zero-add}
-use native.Mathlib.Numerals.{add-one}
-use lib.Dec.{eqb}
-use lib.ListN.{length, getD, set, drop, drop-of-length-le}
-use lib.Seq.{drop-cons}
-use borrow.Author.Tests.{eq-eqb, ne-eqb}
+use lib.Dec.{T, eqb, ltb, ltb→lt}
+use lib.ListN.{length, getD, set, replicate, length-set}
+use lib.Seq.{getD-set-same}
+use borrow.Author.Tests.{eqb-false, ne-eqb}
+use Rattle.wire.specs.declared.Num.{Num}
+use Rattle.wire.specs.declared.Num.the-variants.{Got as NumGot, Bad, Cut}
+use Rattle.wire.specs.Number.{numberAt}
 use Rattle.wire.proofs.Choice.{pick-case, when-case}
 use Rattle.block.specs.Blocks.{Block, Expr, Content, tree, nodes, nodesOf, nodesIn, codeOf}
-use Rattle.block.specs.Kinds.{expression, kindNumber, nothing, contentOf, settingOf, kindOf, typesOf, memoryOf, figureFor, figureOf, markFor}
-use Rattle.block.specs.Reading.{Read, got, fault, andThen, Known, typedAt, exprAt, contentAt, fieldsAt, blockAt}
-use Rattle.block.specs.Answers.{fieldRead, blankRow, rowFrom, rowOf, briefOf}
-use Rattle.block.specs.declared.Field.the-variants.{Got, Fault}
+use Rattle.block.specs.Kinds.{expression, offTime, kindNumber, allowed, excepted, contentOf, settingOf, kindOf, typesOf, memoryOf, figureFor, figureOf, markFor}
+use Rattle.block.specs.Reading.{Read, got, fault, andThen, Known, judged, typedAt, exprAt, contentAt, fieldsAt, blockAt}
+use Rattle.block.specs.Answers.{blankRow, emptyRow, stored, numberBefore, fieldMore, rowFrom, rowOf, briefOf}
 use Rattle.block.specs.declared.End.the-variants.{Next, Fault as EndFault}
 use Rattle.block.specs.declared.Brief.the-variants.{Got as BriefGot, Fault as BriefFault}
 use Rattle.block.specs.declared.Row.{Row}
-use Rattle.block.proofs.References.{content-code, content-nodes, content-reference, content-setting}
+use Rattle.block.proofs.References.{content-code, content-nodes, content-setting}
+use Rattle.block.proofs.Table.{both-left, both-right}
 use Rattle.block.proofs.KindTable.{types-few, memory-light}
 use Rattle.block.proofs.Expressions.{typed-below, few, Whole, whole}
 
--- the field of a type, by what was read
-module _ (k : Known) (ty before : ℕ) (s : List ℕ) (at : ℕ) where
-  pub field-tree : {next left : ℕ} → ty ≡ expression → Whole 63 (exprAt k 16 63 s at) next left
-      → (left ≤ 63) × (Got 0 (63 - left) 0 next ≡ fieldRead (contentAt k ty before s at))
-  unfolding contentAt
-  field-tree {next} {left} e (whole t r l) =
+-- a BL's row, by what was read of its expression
+module _ (k : Known) (s : List ℕ) (at : ℕ) where
+  pub tree-full : {next left : ℕ} → Whole 63 (exprAt k 16 63 s at) next left
+      → (left ≤ 63) × (record { fields = replicate 5 0; nodes = 63 - left; end = Next next } ≡ rowOf (fieldsAt k (typesOf 0) 0 s at))
+  unfolding contentAt fieldsAt kindOf rowOf
+  tree-full {next} {left} (whole t r l) =
       let h = few k 16 63 s at r in
       let n : 63 - left ≡ nodes t = omega arith in
-      (omega arith, rw (eq-eqb _ _ e, r, n))
+      (omega arith, rw (r, n, add-zero, zero-add))
 
-  pub field-no-tree : {n p : ℕ} → ty ≡ expression → exprAt k 16 63 s at ≡ fault n p → Fault n p ≡ fieldRead (contentAt k ty before s at)
-  unfolding contentAt
-  field-no-tree e r = rw (eq-eqb _ _ e, r)
+  pub tree-stopped : {n p : ℕ} → exprAt k 16 63 s at ≡ fault n p → blankRow n p ≡ rowOf (fieldsAt k (typesOf 0) 0 s at)
+  unfolding contentAt fieldsAt kindOf rowOf
+  tree-stopped r = rw r
 
-  pub field-reference : {v next : ℕ} → (ty ≡ expression → ⊥) → ty ≤ 1 → typedAt k ty before s at ≡ got v next
-      → Got v 0 0 next ≡ fieldRead (contentAt k ty before s at)
-  unfolding contentAt
-  field-reference {v} ne h r = rw (ne-eqb _ _ ne, r, content-code ty v, content-nodes ty v, content-reference ty v h)
+-- one more field of a row, by what was read for it
+pub before-place : (i : ℕ) (l : List ℕ) → (i ≡ 0 → ⊥) → getD l (i - 1) 0 ≡ numberBefore i l
+before-place zero l ne = absurd (ne refl)
+before-place (suc i) l ne = let e : suc i - 1 ≡ i = omega arith in rw e
 
-  pub field-setting : {v next : ℕ} → (ty ≡ expression → ⊥) → 1 < ty → typedAt k ty before s at ≡ got v next
-      → Got v 0 v next ≡ fieldRead (contentAt k ty before s at)
-  unfolding contentAt
-  field-setting {v} ne h r = rw (ne-eqb _ _ ne, r, content-code ty v, content-nodes ty v, content-setting ty v h)
+module _ (k : Known) (i ty : ℕ) (s : List ℕ) (row : Row) where
+  pub more-refused : {n p : ℕ} → row .end ≡ EndFault n p → row ≡ fieldMore k i ty s row
+  unfolding fieldMore
+  more-refused e = rw e
 
-  pub field-no-number : {n p : ℕ} → (ty ≡ expression → ⊥) → typedAt k ty before s at ≡ fault n p → Fault n p ≡ fieldRead (contentAt k ty before s at)
+  pub more-fault : {at x n p : ℕ} → row .end ≡ Next at → x ≡ numberBefore i (row .fields) → typedAt k ty x s at ≡ fault n p → blankRow n p ≡ fieldMore k i ty s row
+  unfolding fieldMore
+  more-fault e b r = rw (e, sym b, r)
+
+  pub more-got : {at x v next : ℕ} → row .end ≡ Next at → x ≡ numberBefore i (row .fields) → typedAt k ty x s at ≡ got v next
+      → record { fields = set (row .fields) i v; nodes = row .nodes; end = Next next } ≡ fieldMore k i ty s row
+  unfolding fieldMore
+  more-got e b r = rw (e, sym b, r)
+
+-- only an off time looks at the setting before it
+allowed-free : (ty a b v : ℕ) → (ty ≡ offTime → ⊥) → allowed ty a v ≡ allowed ty b v
+unfolding allowed excepted
+allowed-free ty a b v ne = rw (ne-eqb ty offTime ne)
+
+judged-free : (k : Known) (ty a b at : ℕ) (m : Num) → (ty ≡ offTime → ⊥) → judged k ty a at m ≡ judged k ty b at m
+judged-free k ty a b at Bad ne = refl
+judged-free k ty a b at Cut ne = refl
+judged-free k ty a b at (NumGot v next) ne = rw (allowed-free ty a b v ne)
+
+typed-free : (k : Known) (ty a b : ℕ) (s : List ℕ) (at : ℕ) → (ty ≡ offTime → ⊥) → typedAt k ty a s at ≡ typedAt k ty b s at
+unfolding typedAt
+typed-free k ty a b s at ne = judged-free k ty a b at (numberAt s at) ne
+
+-- one field before the rest of a row
+row-cons :
+    (i : ℕ) (l : List ℕ) (n : ℕ) (c : Content) (r : Read (List Content)) →
+    rowFrom i l n (andThen r (λ cs end. got (c ∷ cs) end)) ≡ rowFrom (suc i) (set l i (codeOf c)) (n + nodesOf c) r
+row-cons i l n c (got cs end) = rw add-assoc
+row-cons i l n c (fault e at) = refl
+
+-- types of numbers for the places of a row from i on; an off time stands after a setting, which `b` says of the first
+abbrev fitting : ℕ → Bool → List ℕ → Bool
+fitting i b [] = true
+fitting i b (ty ∷ ts) = ltb i 5 && (ltb ty 13 && ((not (eqb ty offTime) || b) && fitting (suc i) (ltb 1 ty) ts))
+
+module _ (k : Known) (s : List ℕ) where
+  -- a row read on by these types, from place i on
+  abbrev pub readAll : List ℕ → ℕ → Row → Row
+  readAll [] i row = row
+  readAll (ty ∷ ts) i row = readAll ts (suc i) (fieldMore k i ty s row)
+
+  stays : (ts : List ℕ) (i n at : ℕ) → readAll ts i (blankRow n at) ≡ blankRow n at
+  unfolding fieldMore
+  stays [] i n at = refl
+  stays (ty ∷ ts) i n at = stays ts (suc i) n at
+
+  -- the number before stands for the setting before
+  typed-same :
+      (ty before i : ℕ) (l : List ℕ) (at : ℕ) (b : Bool) → T (not (eqb ty offTime) || b) → (T b → before ≡ numberBefore i l) →
+      typedAt k ty before s at ≡ typedAt k ty (numberBefore i l) s at
+  typed-same ty before i l at b t h = go (eqb ty offTime) refl t
+    where
+      go : (x : Bool) → eqb ty offTime ≡ x → T (not x || b) → typedAt k ty before s at ≡ typedAt k ty (numberBefore i l) s at
+      go true e t = rw (h t)
+      go false e t = typed-free k ty before (numberBefore i l) s at (eqb-false ty offTime e)
+
+  content-number : (ty before : ℕ) (at : ℕ) → ty < 13 → contentAt k ty before s at ≡ andThen (typedAt k ty before s at) (λ v next. got (contentOf ty v) next)
   unfolding contentAt
-  field-no-number ne r = rw (ne-eqb _ _ ne, r)
+  content-number ty before at h = rw (ne-eqb ty expression (λ z. omega arith))
+
+  setting-same : (ty v i : ℕ) (l : List ℕ) → i < length l → T (ltb 1 ty) → settingOf (contentOf ty v) ≡ numberBefore (suc i) (set l i v)
+  setting-same ty v i l h t = content-setting ty v (ltb→lt 1 ty t) ∙ sym (getD-set-same l i v 0 h)
+
+  -- what is left of a row, read on by its types, is the whole
+  left-whole :
+      (ts : List ℕ) (i : ℕ) (b : Bool) (l : List ℕ) (before at : ℕ) → length l ≡ 5 → T (fitting i b ts) → (T b → before ≡ numberBefore i l) →
+      readAll ts i (record { fields = l; nodes = 0; end = Next at }) ≡ rowFrom i l 0 (fieldsAt k ts before s at)
+  unfolding fieldMore fieldsAt
+  left-whole [] i b l before at e f h = refl
+  left-whole (ty ∷ ts) i b l before at e f h =
+      let f1 = both-right (ltb i 5) _ f in
+      let f2 = both-right (ltb ty 13) _ f1 in
+      rw (content-number ty before at (ltb→lt ty 13 (both-left (ltb ty 13) _ f1)), typed-same ty before i l at b (both-left (not (eqb ty offTime) || b) _ f2) h)
+      (on-number (typedAt k ty (numberBefore i l) s at)
+      (λ v next. left-whole ts (suc i) (ltb 1 ty) (set l i v) (settingOf (contentOf ty v)) next (length-set l i v ∙ e) (both-right (not (eqb ty offTime) || b) _ f2)
+      (setting-same ty v i l (omega (arith, ltb→lt i 5 (both-left (ltb i 5) _ f))))))
+    where
+      on-number :
+          (r : Read ℕ) →
+          ((v next : ℕ) → readAll ts (suc i) (record { fields = set l i v; nodes = 0; end = Next next }) ≡ rowFrom (suc i) (set l i v) 0 (fieldsAt k ts (settingOf (contentOf ty v)) s next)) →
+          readAll ts (suc i) (stored i (record { fields = l; nodes = 0; end = Next at }) r)
+          ≡ rowFrom i l 0 (andThen (andThen r (λ v next. got (contentOf ty v) next)) (λ c next. andThen (fieldsAt k ts (settingOf c) s next) (λ cs end. got (c ∷ cs) end)))
+      on-number (got v next) g =
+          g v next ∙ sym (row-cons i l 0 (contentOf ty v) (fieldsAt k ts (settingOf (contentOf ty v)) s next) ∙ rw (content-code ty v, content-nodes ty v))
+      on-number (fault n p) g = stays ts (suc i) n p
+
+  pub row-read : (ts : List ℕ) (at : ℕ) → T (fitting 0 true ts) → readAll ts 0 (emptyRow at) ≡ rowOf (fieldsAt k ts 0 s at)
+  unfolding rowOf
+  row-read ts at f = left-whole ts 0 true (replicate 5 0) 0 at refl f (λ _. refl)
 
 -- a field has at most 63 nodes
 abbrev Few : Read Content → Type 0
@@ -69,55 +158,6 @@ content-few k ty before s at =
     when-case Few (eqb ty expression) _ _
     (λ _. few-tree (exprAt k 16 63 s at) (λ t n e. few k 16 63 s at e))
     (λ _. few-number ty (typedAt k ty before s at))
-
-got-few : (r : Read Content) {v m b next : ℕ} → fieldRead r ≡ Got v m b next → Few r → m ≤ 63
-got-few (got c n) {m = m} e f = let h : nodesOf c ≡ m = cc in omega arith
-got-few (fault n at) e f = let z : _≡_ {A = ℕ} 0 1 = cc in absurd (omega arith)
-
-pub field-few : (k : Known) (ty before : ℕ) (s : List ℕ) (at : ℕ) {v m b next : ℕ} → fieldRead (contentAt k ty before s at) ≡ Got v m b next → m ≤ 63
-field-few k ty before s at e = got-few (contentAt k ty before s at) e (content-few k ty before s at)
-
--- one field before the rest of a row
-row-cons :
-    (i : ℕ) (l : List ℕ) (n : ℕ) (c : Content) (r : Read (List Content)) →
-    rowFrom i l n (andThen r (λ cs end. got (c ∷ cs) end)) ≡ rowFrom (i + 1) (set l i (codeOf c)) (n + nodesOf c) r
-row-cons i l n c (got cs end) = rw (add-one, add-assoc)
-row-cons i l n c (fault e at) = refl
-
-row-got :
-    (i : ℕ) (l : List ℕ) (n : ℕ) (r : Read Content) (f : ℕ → ℕ → Read (List Content)) {v m b next : ℕ} → fieldRead r ≡ Got v m b next →
-    rowFrom i l n (andThen r (λ c at. andThen (f (settingOf c) at) (λ cs end. got (c ∷ cs) end)))
-    ≡ rowFrom (i + 1) (set l i v) (n + m) (f b next)
-row-got i l n (got c at) f {v} {m} {b} {next} e =
-    let ev : codeOf c ≡ v = cc in
-    let em : nodesOf c ≡ m = cc in
-    let eb : settingOf c ≡ b = cc in
-    let en : at ≡ next = cc in
-    row-cons i l n c (f (settingOf c) at) ∙ rw (ev, em, eb, en)
-row-got i l n (fault x at) f e = let z : _≡_ {A = ℕ} 0 1 = cc in absurd (omega arith)
-
-row-stop :
-    (i : ℕ) (l : List ℕ) (n : ℕ) (r : Read Content) (f : Content → ℕ → Read (List Content)) {x p : ℕ} → fieldRead r ≡ Fault x p →
-    rowFrom i l n (andThen r f) ≡ blankRow x p
-row-stop i l n (got c at) f e = let z : _≡_ {A = ℕ} 0 1 = cc in absurd (omega arith)
-row-stop i l n (fault x at) f e = cc
-
-module _ (k : Known) (ts : List ℕ) (i before : ℕ) (l : List ℕ) (n : ℕ) (s : List ℕ) (at : ℕ) where
-  pub fields-got : {v m b next : ℕ} → i < length ts → fieldRead (contentAt k (getD ts i nothing) before s at) ≡ Got v m b next
-      → rowFrom i l n (fieldsAt k (drop i ts) before s at) ≡ rowFrom (i + 1) (set l i v) (n + m) (fieldsAt k (drop (i + 1) ts) b s next)
-  unfolding fieldsAt
-  fields-got h e =
-      rw (drop-cons ts i nothing h, add-one i)
-      (rw (add-one i) at (row-got i l n (contentAt k (getD ts i nothing) before s at) (λ b at. fieldsAt k (drop (suc i) ts) b s at) e))
-
-  pub fields-stop : {x p : ℕ} → i < length ts → fieldRead (contentAt k (getD ts i nothing) before s at) ≡ Fault x p
-      → rowFrom i l n (fieldsAt k (drop i ts) before s at) ≡ blankRow x p
-  unfolding fieldsAt
-  fields-stop h e = rw (drop-cons ts i nothing h) (row-stop i l n (contentAt k (getD ts i nothing) before s at) _ e)
-
-  pub fields-end : length ts ≤ i → rowFrom i l n (fieldsAt k (drop i ts) before s at) ≡ record { fields = l; nodes = n; end = Next at }
-  unfolding fieldsAt
-  fields-end h = rw (drop-of-length-le ts h, add-zero)
 
 -- a row of so many fields has at most 63 nodes for each
 abbrev RowFew : ℕ → Read (List Content) → Type 0

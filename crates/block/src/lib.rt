@@ -1,12 +1,11 @@
-// One block read from its bytes: numbers by their types, expressions, and the fields of every kind by one table.
+// One block read from its bytes: numbers by their types, expressions, and the fields of every kind.
 use wire::Num;
 ghost use mathlib.Core.Path.{_≡_};
 ghost use Prim.Native.Nat.{_<_};
-ghost use mathlib.Core.List.{[]};
 ghost use lib.ListN.{getD};
 ghost use Rattle.block.specs.Kinds.{allowed, bitRef, figureFor, kindOf, limits, markFor, typesOf};
-ghost use Rattle.block.specs.Reading.{bitKnown, known, typedAt, headAt, exprAt, contentAt, fieldsAt, blockAt};
-ghost use Rattle.block.specs.Answers.{numberOf, passed, fieldRead, blankRow, rowOf, briefOf, rows};
+ghost use Rattle.block.specs.Reading.{bitKnown, known, typedAt, headAt, exprAt, fieldsAt, blockAt};
+ghost use Rattle.block.specs.Answers.{numberOf, passed, blankRow, emptyRow, fieldMore, rowOf, briefOf};
 
 // The numbers of refusal that reading gives.
 pub const BAD: u8 = 1;
@@ -46,10 +45,6 @@ pub const ALARM_COUNT: u8 = 11;
 
 const NODE_NUMBER: u8 = 12;
 
-const EXPRESSION: u8 = 13;
-
-const NOTHING: u8 = 14;
-
 // Each type's numbers are below this.
 fn limit_of(ty: u8) -> u32
     requires { ⌜ ty < 13 ⌝ }
@@ -69,29 +64,6 @@ fn limit_of(ty: u8) -> u32
         KIND_NUMBER => 13,
         ALARM_COUNT => 33,
         _ => 240,
-    }
-}
-
-// The table of kinds. A row for each, BL, SR, PL, AL, DL, OS, FL, CN, UD, CP, OG, ZC, ST: the types of its fields, its memory,
-// and 1 if it has a word output.
-fn row_of(kind: u8) -> [u8; 7]
-    requires { ⌜ kind < 13 ⌝ }
-    ensures { λ r. ⌜ r ≡ getD rows kind [] ⌝ }
-{
-    match kind {
-        0 => [EXPRESSION, NOTHING, NOTHING, NOTHING, NOTHING, 10, 0],
-        1 => [PIN, PIN, EITHER, NOTHING, NOTHING, 14, 0],
-        2 => [PIN, EITHER, NOTHING, NOTHING, NOTHING, 10, 0],
-        3 => [PIN, PIN, NOTHING, NOTHING, NOTHING, 13, 0],
-        4 => [PIN, PIN, UNIT, TIME, TIME, 19, 0],
-        5 => [PIN, PIN, UNIT, TIME, NOTHING, 17, 0],
-        6 => [PIN, UNIT, TIME, OFF_TIME, NOTHING, 19, 0],
-        7 => [PIN, PIN, TIME, NOTHING, NOTHING, 16, 1],
-        8 => [PIN, PIN, PIN, PIN, SIGNED, 22, 1],
-        9 => [PIN, RELATION, WORD, WORD, NOTHING, 17, 0],
-        10 => [PIN, SIGNED, DIVISOR, SIGNED, WORD, 22, 1],
-        11 => [PIN, EITHER, WORD, WORD, WORD, 20, 0],
-        _ => [PIN, WORD, WORD, WORD, NOTHING, 19, 0],
     }
 }
 
@@ -228,7 +200,7 @@ pub enum Passed {
     Fault { no: u8, at: usize },
 }
 
-// Passes over the expression at a place: from node to node, and over the first of two parts by itself.
+// Passes over the expression at a place: from node to node, and over the first of two parts by itself where it is no leaf.
 pub fn pass(s: &[u8], at: usize, depth: u8, left: u8, blocks: &[u8; 200]) -> Passed
     ensures { λ r. ⌜ r ≡ passed left (exprAt (now (blocks .entry)) depth left (now (s .entry)) at) ⌝ }
 {
@@ -238,9 +210,7 @@ pub fn pass(s: &[u8], at: usize, depth: u8, left: u8, blocks: &[u8; 200]) -> Pas
     loop {
         let h = head(s, from, levels, nodes, blocks);
         match h {
-            Node::Stop { no, at: place } => {
-                return Passed::Fault { no, at: place };
-            }
+            Node::Stop { no, at: place } => return Passed::Fault { no, at: place },
             Node::Leaf { r: _, next } => {
                 nodes -= 1;
                 return Passed::Good { next, left: nodes };
@@ -253,15 +223,19 @@ pub fn pass(s: &[u8], at: usize, depth: u8, left: u8, blocks: &[u8; 200]) -> Pas
             }
             Node::Two { op: _, next } => {
                 levels -= 1;
+                let g = head(s, next, levels, nodes - 1, blocks);
+                if let Node::Leaf { r: _, next: n1 } = g {
+                    from = n1;
+                    nodes -= 2;
+                    continue;
+                }
                 let a = pass(s, next, levels, nodes - 1, blocks);
                 match a {
                     Passed::Good { next: n1, left: l1 } => {
                         from = n1;
                         nodes = l1;
                     }
-                    Passed::Fault { no: _, at: _ } => {
-                        return a;
-                    }
+                    Passed::Fault { no, at: place } => return Passed::Fault { no, at: place },
                 }
             }
         }
@@ -273,8 +247,21 @@ pub fn memory_of(kind: u8) -> u32
     requires { ⌜ kind < 13 ⌝ }
     ensures { λ r. ⌜ r ≡ kindOf kind .memory ⌝ }
 {
-    let row = row_of(kind);
-    row[5] as u32
+    match kind {
+        0 => 10,
+        1 => 14,
+        2 => 10,
+        3 => 13,
+        4 => 19,
+        5 => 17,
+        6 => 19,
+        7 => 16,
+        8 => 22,
+        9 => 17,
+        10 => 22,
+        11 => 20,
+        _ => 19,
+    }
 }
 
 // Whether a kind has a word output.
@@ -282,8 +269,12 @@ fn has_word(kind: u8) -> bool
     requires { ⌜ kind < 13 ⌝ }
     ensures { λ r. ⌜ r ≡ kindOf kind .hasWord ⌝ }
 {
-    let row = row_of(kind);
-    row[6] == 1
+    match kind {
+        7 => true,
+        8 => true,
+        10 => true,
+        _ => false,
+    }
 }
 
 // What is known of a block of a kind that is in the program: 2 where it has a word, else 1.
@@ -299,49 +290,6 @@ fn figure_of(nodes: u32) -> u32
     ensures { λ r. ⌜ r ≡ figureFor nodes ⌝ }
 {
     if nodes == 0 { 1 } else { nodes }
-}
-
-// A field: the number that carries it, its nodes, what it is to the next as the setting before, and the place after it.
-pub enum Field {
-    Got {
-        value: u32,
-        nodes: u32,
-        setting: u32,
-        next: usize,
-    },
-    Fault(u8, usize),
-}
-
-// The field of type ty at a place, after the setting `before`.
-fn read_field(s: &[u8], at: usize, ty: u8, before: u32, blocks: &[u8; 200]) -> Field
-    requires { ⌜ ty < 14 ⌝ }
-    ensures { λ r. ⌜ r ≡ fieldRead (contentAt (now (blocks .entry)) ty before (now (s .entry)) at) ⌝ }
-{
-    if ty == EXPRESSION {
-        let e = pass(s, at, 16, 63, blocks);
-        return match e {
-            Passed::Good { next, left } => Field::Got {
-                value: 0,
-                nodes: (63 - left) as u32,
-                setting: 0,
-                next,
-            },
-            Passed::Fault { no, at: place } => Field::Fault(no, place),
-        };
-    }
-    let n = read_number(s, at, ty, before, blocks);
-    match n {
-        Number::Got(v, next) => {
-            let setting = if ty <= WORD { 0 } else { v };
-            Field::Got {
-                value: v,
-                nodes: 0,
-                setting,
-                next,
-            }
-        }
-        Number::Fault(no, place) => Field::Fault(no, place),
-    }
 }
 
 // The place after what was read, or a refusal and its place.
@@ -368,49 +316,127 @@ fn blank(no: u8, at: usize) -> Row
     }
 }
 
-// The fields of a block of this kind, from `start` on.
+// A row of which nothing is read yet.
+fn empty(at: usize) -> Row
+    ensures { λ r. ⌜ r ≡ emptyRow at ⌝ }
+{
+    Row {
+        fields: [0u32; 5],
+        nodes: 0,
+        end: End::Next(at),
+    }
+}
+
+impl Row {
+    // Reads one more field into place i: a number of type ty, after the number at the place before. A row that is refused stays so.
+    fn read_field(self, i: usize, ty: u8, s: &[u8], blocks: &[u8; 200]) -> Row
+        requires { ⌜ (i < 5) × (ty < 13) ⌝ }
+        ensures { λ r. ⌜ r ≡ fieldMore (now (blocks .entry)) i ty (now (s .entry)) self ⌝ }
+    {
+        let end = self.end;
+        match end {
+            End::Fault(_, _) => self,
+            End::Next(at) => {
+                let before = if i == 0 { 0 } else { self.fields[i - 1] };
+                let n = read_number(s, at, ty, before, blocks);
+                match n {
+                    Number::Fault(no, place) => blank(no, place),
+                    Number::Got(v, next) => {
+                        let mut fields = self.fields;
+                        fields[i] = v;
+                        Row {
+                            fields,
+                            nodes: self.nodes,
+                            end: End::Next(next),
+                        }
+                    }
+                }
+            }
+        }
+    }
+}
+
+// The row of a BL: its expression, passed over.
+fn read_expression(s: &[u8], at: usize, blocks: &[u8; 200]) -> Row
+    ensures { λ r. ⌜ r ≡ rowOf (fieldsAt (now (blocks .entry)) (typesOf 0) 0 (now (s .entry)) at) ⌝ }
+{
+    let e = pass(s, at, 16, 63, blocks);
+    match e {
+        Passed::Fault { no, at: place } => blank(no, place),
+        Passed::Good { next, left } => Row {
+            fields: [0u32; 5],
+            nodes: (63 - left) as u32,
+            end: End::Next(next),
+        },
+    }
+}
+
+// The fields of a block of this kind, from `start` on: BL, SR, PL, AL, DL, OS, FL, CN, UD, CP, OG, ZC, ST, each field by its type.
+// The types stand in the calls themselves, so that the compiler makes each call into code for its type.
 pub fn read_row(s: &[u8], start: usize, kind: u8, blocks: &[u8; 200]) -> Row
     requires { ⌜ kind < 13 ⌝ }
     ensures { λ r. ⌜ r ≡ rowOf (fieldsAt (now (blocks .entry)) (typesOf kind) 0 (now (s .entry)) start) ⌝ }
 {
-    let row = row_of(kind);
-    let mut fields = [0u32; 5];
-    let mut nodes: u32 = 0;
-    let mut before: u32 = 0;
-    let mut at = start;
-    let mut i: usize = 0;
-    while i < 5 {
-        let ty = row[i];
-        if ty == NOTHING {
-            return Row {
-                fields,
-                nodes,
-                end: End::Next(at),
-            };
-        }
-        let f = read_field(s, at, ty, before, blocks);
-        match f {
-            Field::Fault(no, place) => {
-                return blank(no, place);
-            }
-            Field::Got {
-                value,
-                nodes: more,
-                setting,
-                next,
-            } => {
-                fields[i] = value;
-                nodes += more;
-                before = setting;
-                at = next;
-            }
-        }
-        i += 1;
-    }
-    Row {
-        fields,
-        nodes,
-        end: End::Next(at),
+    match kind {
+        0 => read_expression(s, start, blocks),
+        1 => empty(start)
+            .read_field(0, PIN, s, blocks)
+            .read_field(1, PIN, s, blocks)
+            .read_field(2, EITHER, s, blocks),
+        2 => empty(start)
+            .read_field(0, PIN, s, blocks)
+            .read_field(1, EITHER, s, blocks),
+        3 => empty(start)
+            .read_field(0, PIN, s, blocks)
+            .read_field(1, PIN, s, blocks),
+        4 => empty(start)
+            .read_field(0, PIN, s, blocks)
+            .read_field(1, PIN, s, blocks)
+            .read_field(2, UNIT, s, blocks)
+            .read_field(3, TIME, s, blocks)
+            .read_field(4, TIME, s, blocks),
+        5 => empty(start)
+            .read_field(0, PIN, s, blocks)
+            .read_field(1, PIN, s, blocks)
+            .read_field(2, UNIT, s, blocks)
+            .read_field(3, TIME, s, blocks),
+        6 => empty(start)
+            .read_field(0, PIN, s, blocks)
+            .read_field(1, UNIT, s, blocks)
+            .read_field(2, TIME, s, blocks)
+            .read_field(3, OFF_TIME, s, blocks),
+        7 => empty(start)
+            .read_field(0, PIN, s, blocks)
+            .read_field(1, PIN, s, blocks)
+            .read_field(2, TIME, s, blocks),
+        8 => empty(start)
+            .read_field(0, PIN, s, blocks)
+            .read_field(1, PIN, s, blocks)
+            .read_field(2, PIN, s, blocks)
+            .read_field(3, PIN, s, blocks)
+            .read_field(4, SIGNED, s, blocks),
+        9 => empty(start)
+            .read_field(0, PIN, s, blocks)
+            .read_field(1, RELATION, s, blocks)
+            .read_field(2, WORD, s, blocks)
+            .read_field(3, WORD, s, blocks),
+        10 => empty(start)
+            .read_field(0, PIN, s, blocks)
+            .read_field(1, SIGNED, s, blocks)
+            .read_field(2, DIVISOR, s, blocks)
+            .read_field(3, SIGNED, s, blocks)
+            .read_field(4, WORD, s, blocks),
+        11 => empty(start)
+            .read_field(0, PIN, s, blocks)
+            .read_field(1, EITHER, s, blocks)
+            .read_field(2, WORD, s, blocks)
+            .read_field(3, WORD, s, blocks)
+            .read_field(4, WORD, s, blocks),
+        _ => empty(start)
+            .read_field(0, PIN, s, blocks)
+            .read_field(1, WORD, s, blocks)
+            .read_field(2, WORD, s, blocks)
+            .read_field(3, WORD, s, blocks),
     }
 }
 

@@ -10,10 +10,10 @@ use lib.ListN.{length, getD, drop, replicate, length-map, length-replicate, List
 use lib.Seq.{sets, sets-eq}
 use borrow.Author.Tests.{ne-eqb}
 use Rattle.wire.proofs.Choice.{pick-case}
-use Rattle.block.specs.Blocks.{Bit, Content, codeOf}
+use Rattle.block.specs.Blocks.{Bit, Content, nodesIn, codeOf}
 use Rattle.block.specs.Kinds.{typesOf, expression, nothing, pin, wordPin, allowed, contentOf, settingOf}
 use Rattle.block.specs.Reading.{Read, got, fault, andThen, Known, typedAt, contentAt, fieldsAt}
-use Rattle.block.proofs.References.{content-code}
+use Rattle.block.proofs.References.{content-code, content-nodes}
 use Rattle.block.proofs.KindTable.{types-few, type-plain}
 use Rattle.block.proofs.Expressions.{typed-allowed}
 use Rattle.block.proofs.Rows.{row-stopped}
@@ -42,6 +42,7 @@ pub record Said (ts : List ℕ) (i before : ℕ) (l : List ℕ) (cs : List Conte
   pub allow : allAllowed ts i before l ≡ true
   pub same : contents ts i l ≡ cs
   pub one : (f : Bit → Bool) → stepsOf f cs ≡ 1
+  pub bare : nodesIn cs ≡ 0
 
 step-one : (f : Bit → Bool) (ty v : ℕ) (cs : List Content) → stepsOf f (contentOf ty v ∷ cs) ≡ 1
 unfolding contentOf
@@ -53,7 +54,7 @@ module _ (k : Known) (s : List ℕ) (l : List ℕ) where
   row : {ts : List ℕ} → Plain ts → (i before at : ℕ) (cs : List Content) {next : ℕ} → fieldsAt k ts before s at ≡ got cs next → Held i l cs
       → Said ts i before l cs
   unfolding fieldsAt contentAt allAllowed contents
-  row none i before at [] e h = record { allow = refl; same = refl; one = λ f. refl }
+  row none i before at [] e h = record { allow = refl; same = refl; one = λ f. refl; bare = refl }
   row none i before at (c ∷ cs) e h = let z : _≡_ {A = ℕ} 0 1 = cc in absurd (omega arith)
   row (more {ty} {ts} lt p) i before at cs {next} e h =
       field (λ b a ds n q g. row p (suc i) b a ds q g) (typedAt k ty before s at) refl (rw (ne-eqb ty expression (λ z. omega arith)) at e)
@@ -69,7 +70,7 @@ module _ (k : Known) (s : List ℕ) (l : List ℕ) where
           let a : allowed ty before v ≡ true = typed-allowed k ty before s at t in
           let m = again (settingOf (contentOf ty v)) n ds end q (g .1) in
           subst (Said (ty ∷ ts) i before l) c
-          (record { allow = rw (w, a) (m .allow); same = rw w (ap (λ (x : List Content). contentOf ty v ∷ x) (m .same)); one = λ f. step-one f ty v ds })
+          (record { allow = rw (w, a) (m .allow); same = rw w (ap (λ (x : List Content). contentOf ty v ∷ x) (m .same)); one = λ f. step-one f ty v ds; bare = rw (content-nodes ty v, m .bare) refl })
 
       field : ((b a : ℕ) (ds : List Content) (n : ℕ) → fieldsAt k ts b s a ≡ got ds n → Held (suc i) l ds → Said ts (suc i) b l ds) →
           (r : Read ℕ) → typedAt k ty before s at ≡ r
@@ -124,6 +125,7 @@ module _ (k : Known) (kind : ℕ) (lt : kind < 13) (ne : 0 < kind) (s : List ℕ
     pub allow : allAllowed (typesOf kind) 0 0 (r .fields) ≡ true
     pub read : fieldsAt k (typesOf kind) 0 s at ≡ got (contents (typesOf kind) 0 (r .fields)) next
     pub one : (f : Bit → Bool) → stepsOf f (contents (typesOf kind) 0 (r .fields)) ≡ 1
+    pub bare : nodesIn (contents (typesOf kind) 0 (r .fields)) ≡ 0
 
   pub ran : {next : ℕ} → r .end ≡ Next next → Ran next
   unfolding rowOf
@@ -135,7 +137,7 @@ module _ (k : Known) (kind : ℕ) (lt : kind < 13) (ne : 0 < kind) (s : List ℕ
           let five : length cs ≤ 5 = omega (arith, fields-long k (typesOf kind) 0 s at w, types-few kind lt) in
           let m = row k s (sets (replicate 5 0) 0 (map codeOf cs)) (plain-by (typesOf kind) (type-plain kind lt ne)) 0 0 at cs w (stored-held cs five) in
           let en : n ≡ next = cc in
-          record { allow = rw f (m .allow); read = rw (f, m .same, ← en) w; one = rw (f, m .same) (m .one) }
+          record { allow = rw f (m .allow); read = rw (f, m .same, ← en) w; one = rw (f, m .same) (m .one); bare = rw (f, m .same) (m .bare) }
       go (fault x y) w u = let z : _≡_ {A = ℕ} 0 1 = cc in absurd (omega arith)
 
   pub lost : {x p : ℕ} → r .end ≡ EndFault x p → fieldsAt k (typesOf kind) 0 s at ≡ fault x p

@@ -5,7 +5,8 @@ use Prim.Native.Nat.{ℕ, suc}
 use lib.IntN.{ℤ}
 use lib.ListN.{getD}
 use Rattle.block.specs.Blocks.{Bit, Word, Content, Block}
-use Rattle.block.specs.Kinds.{allowed, contentOf, settingOf, typesOf}
+use Rattle.block.specs.Kinds.{allowed, contentOf, settingOf, typesOf, memoryOf, markOf}
+use Rattle.block.specs.Asking.{asking}
 use Rattle.block.specs.Reading.{Read, got, fault, andThen}
 use Rattle.block.specs.declared.End.the-variants.{Next, Fault}
 use Rattle.rules.specs.declared.Place.{Place}
@@ -33,8 +34,14 @@ blockRead kind r = andThen r (λ cs end. got (record { kind = kind; fields = cs 
 
 -- a block's turn; nothing happens where none can be read
 abbrev pub noTurn : Place → ℕ → ℕ → Turned
-noTurn p n at = record { place = p; steps = 0; end = Fault n at }
+noTurn p n at = record { place = p; steps = 0; memory = 0; mark = 0; end = Fault n at }
 
 abbrev pub turnOf : (Bit → Bool) → (Word → ℤ) → ℕ → Place → Read Block → Turned
-turnOf f g e p (got b next) = record { place = ruled f g e b p; steps = stepsOf f (b .fields); end = Next next }
+turnOf f g e p (got b next) =
+    record { place = ruled f g e b p; steps = stepsOf f (b .fields); memory = memoryOf b; mark = markOf b; end = Next next }
 turnOf f g e p (fault n at) = noTurn p n at
+
+-- the blocks that were asked for their words, after this block too
+abbrev pub askedAfter : List ℕ → Read Block → List ℕ
+askedAfter l (got b next) = asking (b .fields) l
+askedAfter l (fault n at) = l

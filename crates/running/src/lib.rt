@@ -5,14 +5,16 @@ use expression::Value;
 use rules::Place;
 ghost use mathlib.Core.Path.{_≡_};
 ghost use mathlib.Core.Bool.{true};
+ghost use mathlib.Core.List.{[], _∷_};
 ghost use Prim.Native.Nat.{ℕ, _<_, _≤_};
 ghost use lib.IntN.{ℤ};
-ghost use Rattle.block.specs.Blocks.{Word};
+ghost use Rattle.block.specs.Blocks.{Word, word as wordField};
+ghost use Rattle.block.specs.Asking.{asking};
 ghost use Rattle.block.specs.Kinds.{allowed, bitRef, wordRef, typesOf, wordPin};
 ghost use Rattle.block.specs.Reading.{fieldsAt, blockAt};
 ghost use Rattle.expression.specs.Expression.{bitIn};
 ghost use Rattle.running.specs.Running.{ruled, signed, wordIn};
-ghost use Rattle.running.specs.Answers.{allAllowed, rowBlock, blockRead, noTurn, turnOf};
+ghost use Rattle.running.specs.Answers.{allAllowed, contents, rowBlock, blockRead, noTurn, turnOf, askedAfter};
 
 // The value at a bit reference.
 fn bit(bits: &[bool; 234], r: u32) -> bool
@@ -182,10 +184,52 @@ fn run(kind: u8, f: [u32; 5], p: Place, bits: &[bool; 234], words: &[i16; 208], 
     }
 }
 
-// The place of a block after its turn, its steps, and where the block ends.
+// Marks the block that a word reference asks for its word.
+fn ask_word(r: u32, asked: &mut [u8; 200])
+    ensures { λ _. ⌜ now (asked .exit) ≡ asking (wordField (wordRef r) ∷ []) (now (asked .entry)) ⌝ }
+{
+    if r < 8 {
+        return;
+    }
+    if r < 208 {
+        let k = (r - 8) as usize;
+        asked[k] = 1;
+    }
+}
+
+// Marks the blocks that a block of a kind with word references asks for their words, by the numbers of its fields.
+fn ask_words(kind: u8, f: [u32; 5], asked: &mut [u8; 200])
+    requires { ⌜ (9 ≤ kind) × (kind < 13) ⌝ }
+    ensures { λ _. ⌜ now (asked .exit) ≡ asking (contents (typesOf kind) 0 f) (now (asked .entry)) ⌝ }
+{
+    match kind {
+        9 => {
+            ask_word(f[2], asked);
+            ask_word(f[3], asked);
+        }
+        10 => {
+            ask_word(f[4], asked);
+        }
+        11 => {
+            ask_word(f[2], asked);
+            ask_word(f[3], asked);
+            ask_word(f[4], asked);
+        }
+        _ => {
+            ask_word(f[1], asked);
+            ask_word(f[2], asked);
+            ask_word(f[3], asked);
+        }
+    }
+}
+
+// The place of a block after its turn, its steps, what acceptance asks of it (its memory and what is known of it from here on),
+// and where the block ends.
 pub struct Turned {
     pub place: Place,
     pub steps: u32,
+    pub memory: u32,
+    pub mark: u8,
     pub end: End,
 }
 
@@ -196,6 +240,8 @@ fn none(p: Place, no: u8, at: usize) -> Turned
     Turned {
         place: p,
         steps: 0,
+        memory: 0,
+        mark: 0,
         end: End::Fault(no, at),
     }
 }
@@ -211,10 +257,12 @@ fn turn_bl(s: &[u8], at: usize, p: Place, bits: &[bool; 234], blocks: &[u8; 200]
             on,
             steps,
             next,
-            left: _,
+            left,
         } => Turned {
             place: rules::bl(on, p),
             steps,
+            memory: block::memory_of(0) + ((63 - left) as u32),
+            mark: block::mark_of(0),
             end: End::Next(next),
         },
     }
@@ -230,24 +278,34 @@ fn turn_row(
     words: &[i16; 208],
     e: u16,
     blocks: &[u8; 200],
+    asked: &mut [u8; 200],
 ) -> Turned
     requires { ⌜ (kind < 13) × (0 < kind) ⌝ }
     ensures { λ r. ⌜ r ≡ turnOf (bitIn (now (bits .entry))) (wordIn (now (words .entry))) e p (blockRead kind (fieldsAt (now (blocks .entry)) (typesOf kind) 0 (now (s .entry)) at)) ⌝ }
+    ensures asks { λ _. ⌜ now (asked .exit) ≡ askedAfter (now (asked .entry)) (blockRead kind (fieldsAt (now (blocks .entry)) (typesOf kind) 0 (now (s .entry)) at)) ⌝ }
 {
     let row = block::read_row(s, at, kind, blocks);
     let fields = row.fields;
     let end = row.end;
     match end {
         End::Fault(no, place) => none(p, no, place),
-        End::Next(next) => Turned {
-            place: run(kind, fields, p, bits, words, e),
-            steps: 1,
-            end: End::Next(next),
-        },
+        End::Next(next) => {
+            if 9 <= kind {
+                ask_words(kind, fields, asked);
+            }
+            Turned {
+                place: run(kind, fields, p, bits, words, e),
+                steps: 1,
+                memory: block::memory_of(kind),
+                mark: block::mark_of(kind),
+                end: End::Next(next),
+            }
+        }
     }
 }
 
-// The turn of the block at a place, where `bits` and `words` have what each reference reads as.
+// The turn of the block at a place, where `bits` and `words` have what each reference reads as; in `asked` it marks the blocks
+// that the block asks for their words.
 pub fn turn(
     s: &[u8],
     at: usize,
@@ -256,8 +314,10 @@ pub fn turn(
     words: &[i16; 208],
     e: u16,
     blocks: &[u8; 200],
+    asked: &mut [u8; 200],
 ) -> Turned
     ensures { λ r. ⌜ r ≡ turnOf (bitIn (now (bits .entry))) (wordIn (now (words .entry))) e p (blockAt (now (blocks .entry)) (now (s .entry)) at) ⌝ }
+    ensures asks { λ _. ⌜ now (asked .exit) ≡ askedAfter (now (asked .entry)) (blockAt (now (blocks .entry)) (now (s .entry)) at) ⌝ }
 {
     let n = block::read_number(s, at, block::KIND_NUMBER, 0, blocks);
     match n {
@@ -267,7 +327,7 @@ pub fn turn(
                 return turn_bl(s, next, p, bits, blocks);
             }
             let kind = v as u8;
-            turn_row(s, next, kind, p, bits, words, e, blocks)
+            turn_row(s, next, kind, p, bits, words, e, blocks, asked)
         }
     }
 }

@@ -7,7 +7,7 @@ use borrow.Fn.Kinds.{In}
 use borrow.Fn.PlainCycle.{Measures, is, falls, and}
 use Rattle.block.specs.Reading.{exprAt}
 use Rattle.block.specs.Answers.{passed}
-use Rattle.block.proofs.Expressions.{sound, on-stop, on-leaf, on-one, on-two, on-fault}
+use Rattle.block.proofs.Expressions.{sound, on-stop, on-leaf, on-one, on-two, on-two-leaf, on-fault}
 use Rattle.block.proofs.pass.Reads as pass
 use Rattle.block.proofs.pass.Kinds as pass-kinds
 use Rattle.block.proofs.+pass.Lts-pass as pass-lts
@@ -57,9 +57,15 @@ pub +pass-spec : {M : Type 1} → statement M
     (λ c. search needs)
     (λ c. omega (arith, sound _ _ _ _ _ (sym (c .before .before .before .head .ensures) ∙ c .before .h4 .given .1)))
     (λ c. omega (arith, sound _ _ _ _ _ (sym (c .before .before .before .head .ensures) ∙ c .before .h4 .given .1)))
-    (λ c κs. (omega (arith, c .before .before .before .before .loop .inv .0, sound _ _ _ _ _ (sym (c .before .before .before .head .ensures) ∙ c .before .h4 .given .1)), tt))
+    (λ c κs. search needs)
     (λ c. search needs)
+    (λ c. omega (arith, sound _ _ _ _ _ (sym (c .before .before .before .head2 .ensures) ∙ c .before .g .given .1)))
     (λ c. omega (arith, sound _ _ _ _ _ (sym (c .before .before .before .before .before .before .before .head .ensures) ∙ c .before .before .before .before .before .h4 .given .1)))
-    (λ c. (omega (arith, c .before .before .before .before .before .before .before .before .loop .inv .0), c .before .before .before .before .before .before .before .before .loop .inv .1 ∙ on-two _ _ _ _ _ (sym (c .before .before .before .before .before .before .before .head .ensures) ∙ c .before .before .before .before .before .h4 .given .1) (sym (c .before .before .before .pass .ensures) ∙ c .before .a .given .1)))
+    (λ c. (omega (arith, c .before .before .before .before .before .before .before .before .loop .inv .0), c .before .before .before .before .before .before .before .before .loop .inv .1 ∙ on-two-leaf _ _ _ _ _ (sym (c .before .before .before .before .before .before .before .head .ensures) ∙ c .before .before .before .before .before .h4 .given .1) (sym (c .before .before .before .head2 .ensures) ∙ c .before .g .given .1)))
+    (λ c. omega (arith, sound _ _ _ _ _ (sym (c .before .before .before .before .before .head .ensures) ∙ c .before .before .before .h4 .given .1)))
+    (λ c κs. (omega (arith, c .before .before .before .before .before .before .loop .inv .0, sound _ _ _ _ _ (sym (c .before .before .before .before .before .head .ensures) ∙ c .before .before .before .h4 .given .1)), tt))
     (λ c. search needs)
-    (λ c. c .enum-told .given .1 ∙ sym (c .before .before .before .before .before .before .before .loop .inv .1 ∙ on-fault _ _ _ _ _ (sym (c .before .before .before .before .before .before .head .ensures) ∙ c .before .before .before .before .h4 .given .1) (sym (c .before .before .pass .ensures) ∙ c .enum-told .given .1)))
+    (λ c. omega (arith, sound _ _ _ _ _ (sym (c .before .before .before .before .before .before .before .before .before .head .ensures) ∙ c .before .before .before .before .before .before .before .h4 .given .1)))
+    (λ c. (omega (arith, c .before .before .before .before .before .before .before .before .before .before .loop .inv .0), c .before .before .before .before .before .before .before .before .before .before .loop .inv .1 ∙ on-two _ _ _ _ _ (sym (c .before .before .before .before .before .before .before .before .before .head .ensures) ∙ c .before .before .before .before .before .before .before .h4 .given .1) (sym (c .before .before .before .pass .ensures) ∙ c .before .a .given .1)))
+    (λ c. search needs)
+    (λ c. sym (c .before .before .before .before .before .before .before .before .before .before .loop .inv .1 ∙ on-fault _ _ _ _ _ (sym (c .before .before .before .before .before .before .before .before .before .head .ensures) ∙ c .before .before .before .before .before .before .before .h4 .given .1) (sym (c .before .before .before .pass .ensures) ∙ c .before .a2 .given .1)))

@@ -1,13 +1,16 @@
--- `block::has_word` meets its contract: the table of kinds, at the column of the word output.
+-- `block::has_word` meets its contract: the table of kinds, where only three have a word.
 use borrow.Author.Needs.{needs}
-use Rattle.block.proofs.KindTable.{word-right}
+use Rattle.block.specs.Kinds.{kindOf}
+use Rattle.block.proofs.KindTable.{wordless}
 use Rattle.block.proofs.has_word.Statement.{statement}
 use Rattle.block.proofs.has_word.Tie as tie
 
 pub has-word-spec : {M : Type 1} → statement M
+unfolding kindOf
 has-word-spec =
     tie.close
     (tie.spec
-    (λ c κs. search needs)
     (λ c. search needs)
-    (λ c. rw (c .row-of .ensures) (word-right _ (c .before .pre))))
+    (λ c. search needs)
+    (λ c. search needs)
+    (λ c. wordless _ (c .before .pre) (c .match .rest .0 .0 .1) (c .match .rest .0 .1) (c .match .rest .1)))

@@ -1,46 +1,86 @@
--- `block::read_row` meets its contract. The loop's invariant: what is left of the row, after the fields stored, is the whole.
-use Rattle.block.proofs.KindTable.{column, types-few, type-here, type-real, type-none}
-use Rattle.block.proofs.Rows.{field-few, fields-got, fields-stop, fields-end}
-use Rattle.block.specs.Answers.{rowOf, rowFrom}
-use Rattle.block.specs.Reading.{fieldsAt}
-use Rattle.block.specs.Kinds.{typesOf}
+-- `block::read_row` meets its contract: in each arm the calls read the row by the kind's types in the table.
+use Rattle.block.proofs.Rows.{row-read}
+use Rattle.block.proofs.Table.{last}
+use Rattle.block.specs.Kinds.{kindOf, typesOf}
 use borrow.Author.Needs.{needs}
-use lib.ListN.{length, drop, length-set}
-use native.Mathlib.Omega.{arith}
-use mathlib.Core.Path.{_≡_, refl, _∙_, sym}
-use Prim.Native.Nat.{_-_, _*_, _≤_}
+use mathlib.Core.Path.{_∙_, refl}
 use Rattle.block.proofs.read_row.Statement.{statement}
 use Rattle.block.proofs.read_row.Tie as tie
 
-abbrev Inv-loop : tie.InvT-loop
-Inv-loop s start kind blocks row fields₀ nodes₀ before₀ at₀ i₀ fields nodes before at i = ((i ≤ 5) × ((length fields ≡ 5) × (nodes ≤ i * 63))) × (rowOf (fieldsAt blocks (typesOf kind) 0 s start) ≡ rowFrom i fields nodes (fieldsAt blocks (drop i (typesOf kind)) before s at))
-
-abbrev μ-loop : tie.MeasureT-loop
-μ-loop s start kind blocks row fields₀ nodes₀ before₀ at₀ i₀ fields nodes before at i = 5 - i
-
-loop-holds : tie.Need-loop-holds Inv-loop μ-loop
-unfolding rowOf
-loop-holds c = (omega arith, refl)
-
 pub read-row-spec : {M : Type 1} → statement M
+unfolding kindOf
 read-row-spec =
     tie.close
     (tie.spec
-    Inv-loop
-    μ-loop
     (λ c κs. search needs)
-    loop-holds
-    (λ c. search needs)
-    (λ c. let e = column _ (c .before .before .before .before .before .pre) (c .before .before .before .row-of .ensures) (c .before .loop-test .taken) in sym (c .before .before .loop .inv .1 ∙ fields-end _ _ _ _ _ _ _ _ (type-none _ (c .before .before .before .before .before .pre) _ (sym e ∙ c .if1 .taken))))
-    (λ c κs. let e = column _ (c .before .before .before .before .before .pre) (c .before .before .before .row-of .ensures) (c .before .loop-test .taken) in omega (arith, e, type-real _ (c .before .before .before .before .before .pre) (c .before .before .loop .i) (type-here _ (c .before .before .before .before .before .pre) (c .before .before .loop .i) (λ z. c .if1 .left (e ∙ z)))))
-    (λ c. search needs)
     (λ c κs. search needs)
-    (λ c. let e = column _ (c .before .before .before .before .before .before .before .before .before .before .pre) (c .before .before .before .before .before .before .before .before .row-of .ensures) (c .before .before .before .before .before .before .loop-test .taken) in c .blank .ensures ∙ sym (c .before .before .before .before .before .before .before .loop .inv .1 ∙ fields-stop _ _ _ _ _ _ _ _ (type-here _ (c .before .before .before .before .before .before .before .before .before .before .pre) _ (λ z. c .before .before .before .before .before .if1 .left (e ∙ z))) (rw e at (sym (c .before .before .before .before .read-field .ensures) ∙ c .before .before .f .given .1))))
-    (λ c. search needs)
-    (λ c. search needs)
-    (λ c. search needs)
-    (λ c. omega (arith, field-few _ _ _ _ _ (sym (c .before .before .before .read-field .ensures) ∙ c .before .f2 .given .1)))
-    (λ c. search needs)
-    (λ c. search needs)
-    (λ c. let e = column _ (c .before .before .before .before .before .before .before .before .before .pre) (c .before .before .before .before .before .before .before .row-of .ensures) (c .before .before .before .before .before .loop-test .taken) in ((omega arith, (simp length-set (c .before .before .before .before .before .before .loop .inv .0 .1 .0), omega (arith, field-few _ _ _ _ _ (sym (c .before .before .before .read-field .ensures) ∙ c .before .f2 .given .1)))), c .before .before .before .before .before .before .loop .inv .1 ∙ fields-got _ _ _ _ _ _ _ _ (type-here _ (c .before .before .before .before .before .before .before .before .before .pre) _ (λ z. c .before .before .before .before .if1 .left (e ∙ z))) (rw e at (sym (c .before .before .before .read-field .ensures) ∙ c .before .f2 .given .1))))
-    (λ c. sym (c .before .loop .inv .1 ∙ fields-end _ (typesOf (c .before .before .before .before .args .kind)) (c .before .loop .i) _ _ _ _ _ (omega (arith, types-few (c .before .before .before .before .args .kind) (c .before .before .before .before .pre))))))
+    (λ c κs. search needs)
+    (λ c κs. search needs)
+    (λ c κs. search needs)
+    (λ c κs. search needs)
+    (λ c κs. search needs)
+    (λ c κs. search needs)
+    (λ c κs. search needs)
+    (λ c κs. search needs)
+    (λ c κs. search needs)
+    (λ c κs. search needs)
+    (λ c κs. search needs)
+    (λ c κs. search needs)
+    (λ c κs. search needs)
+    (λ c κs. search needs)
+    (λ c κs. search needs)
+    (λ c κs. search needs)
+    (λ c κs. search needs)
+    (λ c κs. search needs)
+    (λ c κs. search needs)
+    (λ c κs. search needs)
+    (λ c κs. search needs)
+    (λ c κs. search needs)
+    (λ c κs. search needs)
+    (λ c κs. search needs)
+    (λ c κs. search needs)
+    (λ c κs. search needs)
+    (λ c κs. search needs)
+    (λ c κs. search needs)
+    (λ c κs. search needs)
+    (λ c κs. search needs)
+    (λ c κs. search needs)
+    (λ c κs. search needs)
+    (λ c κs. search needs)
+    (λ c κs. search needs)
+    (λ c κs. search needs)
+    (λ c κs. search needs)
+    (λ c κs. search needs)
+    (λ c κs. search needs)
+    (λ c κs. search needs)
+    (λ c κs. search needs)
+    (λ c κs. search needs)
+    (λ c κs. search needs)
+    (λ c κs. search needs)
+    (λ c κs. search needs)
+    (λ c κs. search needs)
+    (λ c κs. search needs)
+    (λ c κs. search needs)
+    (λ c κs. search needs)
+    (λ c κs. search needs)
+    (λ c κs. search needs)
+    (λ c κs. search needs)
+    (λ c κs. search needs)
+    (λ c κs. search needs)
+    (λ c κs. search needs)
+    (λ c κs. search needs)
+    (λ c κs. search needs)
+    (λ c κs. search needs)
+    (λ c. c .read-expression .ensures ∙ rw (c .before .match .keys1) refl)
+    (λ c. rw (c .before .before .before .before .match .keys2, c .read-field3 .ensures, c .before .read-field2 .ensures, c .before .before .read-field .ensures, c .before .before .before .empty .ensures) (row-read _ _ (typesOf 1) _ tt))
+    (λ c. rw (c .before .before .before .match .keys3, c .read-field5 .ensures, c .before .read-field4 .ensures, c .before .before .empty2 .ensures) (row-read _ _ (typesOf 2) _ tt))
+    (λ c. rw (c .before .before .before .match .keys4, c .read-field7 .ensures, c .before .read-field6 .ensures, c .before .before .empty3 .ensures) (row-read _ _ (typesOf 3) _ tt))
+    (λ c. rw (c .before .before .before .before .before .before .match .keys5, c .read-field12 .ensures, c .before .read-field11 .ensures, c .before .before .read-field10 .ensures, c .before .before .before .read-field9 .ensures, c .before .before .before .before .read-field8 .ensures, c .before .before .before .before .before .empty4 .ensures) (row-read _ _ (typesOf 4) _ tt))
+    (λ c. rw (c .before .before .before .before .before .match .keys6, c .read-field16 .ensures, c .before .read-field15 .ensures, c .before .before .read-field14 .ensures, c .before .before .before .read-field13 .ensures, c .before .before .before .before .empty5 .ensures) (row-read _ _ (typesOf 5) _ tt))
+    (λ c. rw (c .before .before .before .before .before .match .keys7, c .read-field20 .ensures, c .before .read-field19 .ensures, c .before .before .read-field18 .ensures, c .before .before .before .read-field17 .ensures, c .before .before .before .before .empty6 .ensures) (row-read _ _ (typesOf 6) _ tt))
+    (λ c. rw (c .before .before .before .before .match .keys8, c .read-field23 .ensures, c .before .read-field22 .ensures, c .before .before .read-field21 .ensures, c .before .before .before .empty7 .ensures) (row-read _ _ (typesOf 7) _ tt))
+    (λ c. rw (c .before .before .before .before .before .before .match .keys9, c .read-field28 .ensures, c .before .read-field27 .ensures, c .before .before .read-field26 .ensures, c .before .before .before .read-field25 .ensures, c .before .before .before .before .read-field24 .ensures, c .before .before .before .before .before .empty8 .ensures) (row-read _ _ (typesOf 8) _ tt))
+    (λ c. rw (c .before .before .before .before .before .match .keys10, c .read-field32 .ensures, c .before .read-field31 .ensures, c .before .before .read-field30 .ensures, c .before .before .before .read-field29 .ensures, c .before .before .before .before .empty9 .ensures) (row-read _ _ (typesOf 9) _ tt))
+    (λ c. rw (c .before .before .before .before .before .before .match .keys11, c .read-field37 .ensures, c .before .read-field36 .ensures, c .before .before .read-field35 .ensures, c .before .before .before .read-field34 .ensures, c .before .before .before .before .read-field33 .ensures, c .before .before .before .before .before .empty10 .ensures) (row-read _ _ (typesOf 10) _ tt))
+    (λ c. rw (c .before .before .before .before .before .before .match .keys12, c .read-field42 .ensures, c .before .read-field41 .ensures, c .before .before .read-field40 .ensures, c .before .before .before .read-field39 .ensures, c .before .before .before .before .read-field38 .ensures, c .before .before .before .before .before .empty11 .ensures) (row-read _ _ (typesOf 11) _ tt))
+    (λ c. rw (last 12 (c .before .before .before .before .before .match .rest) (c .before .before .before .before .before .before .before .pre), c .read-field46 .ensures, c .before .read-field45 .ensures, c .before .before .read-field44 .ensures, c .before .before .before .read-field43 .ensures, c .before .before .before .before .empty12 .ensures) (row-read _ _ (typesOf 12) _ tt)))

@@ -1,5 +1,7 @@
--- `running::turn_bl` meets its contract: the expression's value and steps.
-use Rattle.running.proofs.Turns.{bl-done, bl-broken}
+-- `running::turn_bl` meets its contract: the expression's value, steps and nodes.
+use Rattle.running.proofs.Turns.{bl-done, bl-broken, bl-left}
+use Rattle.block.proofs.KindTable.{memory-light}
+use native.Mathlib.Omega.{arith}
 use mathlib.Core.Path.{_∙_, sym}
 use borrow.Author.Needs.{needs}
 use Rattle.running.proofs.turn_bl.Statement.{statement}
@@ -14,5 +16,10 @@ turn-bl-spec =
     (λ c κs. search needs)
     (λ c. search needs)
     (λ c κs. search needs)
+    (λ c κs. search needs)
+    (λ c. omega (arith, bl-left _ _ _ _ (sym (c .before .before .before .before .before .eval .ensures) ∙ c .before .before .before .v2 .given .1)))
+    (λ c. search needs)
+    (λ c. omega (arith, c .memory-of .ensures, memory-light 0 (omega arith), bl-left _ _ _ _ (sym (c .before .before .before .before .before .eval .ensures) ∙ c .before .before .before .v2 .given .1)))
+    (λ c κs. search needs)
     (λ c. λ g e. c .none .ensures ∙ bl-broken _ _ _ _ g e _ (sym (c .before .before .before .before .eval .ensures) ∙ c .before .before .v .given .1))
-    (λ c. λ g e. rw (c .bl .ensures) (bl-done _ _ _ _ g e _ (sym (c .before .before .before .before .eval .ensures) ∙ c .before .before .v2 .given .1))))
+    (λ c. λ g e. rw (c .before .before .bl .ensures, c .before .memory-of .ensures, c .mark-of .ensures) (bl-done _ _ _ _ g e _ (sym (c .before .before .before .before .before .before .eval .ensures) ∙ c .before .before .before .before .v2 .given .1))))

@@ -1,0 +1,11 @@
+pub mod Agree
+pub mod AlarmWord
+pub mod Attempts
+pub mod Blocks
+pub mod Figures
+pub mod Going
+pub mod Known
+pub mod Lists
+pub mod Loaded
+pub mod Parts
+pub mod Values

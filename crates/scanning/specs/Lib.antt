@@ -1,0 +1,4 @@
+pub mod Scan
+pub mod Arrays
+pub mod Trials
+pub mod Loading
