@@ -43,12 +43,12 @@ pub attempt-accepts : (e : ℕ) (a : Arrays) (s : List ℕ) → attempted e a s 
 unfolding attempted accepted programAt tried
 attempt-accepts e a s = by-count (typedAt everyBlock blockCount 0 s 0) refl
   where
-    chosen : (b : Bool) (m w : ℕ) → pick {A = Outcome} b (record { good = true; steps = m; alarms = w }) noAttempt .good ≡ b
-    chosen true m w = refl
-    chosen false m w = refl
+    chosen : (b : Bool) (n m w : ℕ) → pick {A = Outcome} b (record { good = true; blocks = n; steps = m; alarms = w }) noAttempt .good ≡ b
+    chosen true n m w = refl
+    chosen false n m w = refl
 
     by-program : (r : Read Program) → attemptOf e a r .good ≡ tried r
-    by-program (got p end) = chosen (acceptable (p .blocks)) _ _
+    by-program (got p end) = chosen (acceptable (p .blocks)) _ _ _
     by-program (fault n at) = refl
 
     by-count : (r : Read ℕ) → typedAt everyBlock blockCount 0 s 0 ≡ r
@@ -86,6 +86,7 @@ pub data Scans (x : Inputs) (ps : List Place) (s : List ℕ) : Type 0 where
       → attempted (x .elapsed) (loaded x ps) s
       ≡ record {
         good = true;
+        blocks = length (p .blocks);
         steps = stepsTo x (p .blocks) (length (p .blocks)) ps;
         alarms = alarmWord x (scanTo x (p .blocks) (length (p .blocks)) ps) (p .alarms);
       }

@@ -11,6 +11,7 @@ use Rattle.block.specs.Reading.{Read, got, fault, andThen, typedAt}
 use Rattle.program.specs.Program.{Program, blocksAt, alarmsAt, programAt}
 use Rattle.program.specs.Acceptance.{everyBlock}
 use Rattle.program.specs.Trial.{firstBlocks, acceptable}
+use Rattle.program.proofs.Laws.{blocks-long}
 use Rattle.scanning.specs.Arrays.{Arrays, turnsTo, blocksWhile}
 use Rattle.scanning.specs.Trials.{ranOf, alarmedOf, noAttempt, attemptOf, attempted, afterAttempt}
 use Rattle.scanning.specs.declared.Ran.{Ran}
@@ -20,8 +21,8 @@ use Rattle.scanning.proofs.Attempts.{count-any}
 use Rattle.scanning.proofs.Blocks.{while-all}
 
 -- what turns and alarms come to
-abbrev pub together : Ran → Alarmed → Outcome
-together r w = pick (r .good) (pick (w .good) (record { good = true; steps = r .steps; alarms = w .word }) noAttempt) noAttempt
+abbrev pub together : ℕ → Ran → Alarmed → Outcome
+together n r w = pick (r .good) (pick (w .good) (record { good = true; blocks = n; steps = r .steps; alarms = w .word }) noAttempt) noAttempt
 
 module _ (e : ℕ) (a : Arrays) (s : List ℕ) where
   pub no-count : {x y : ℕ} → typedAt everyBlock blockCount 0 s 0 ≡ fault x y → (noAttempt ≡ attempted e a s) × (a ≡ afterAttempt e a s)
@@ -35,7 +36,7 @@ module _ (e : ℕ) (a : Arrays) (s : List ℕ) where
 
     pub by-parts : (r : Ran) → r ≡ ranOf e a (blocksAt (firstBlocks n) n s at)
         → (b : Arrays) → b ≡ turnsTo e (blocksWhile (firstBlocks n) n s at) (length (blocksWhile (firstBlocks n) n s at)) a
-        → together r (alarmedOf (b .bits) (alarmsAt (firstBlocks n) s (r .next))) ≡ attempted e a s
+        → together n r (alarmedOf (b .bits) (alarmsAt (firstBlocks n) s (r .next))) ≡ attempted e a s
     unfolding attempted programAt
     by-parts r h b w =
         rw (count, count-any (firstBlocks n) everyBlock s ∙ count, h)
@@ -45,14 +46,14 @@ module _ (e : ℕ) (a : Arrays) (s : List ℕ) where
         same true = refl
         same false = refl
 
-        by-alarms : (bs : List Block) (m : ℕ) → b ≡ turnsTo e bs (length bs) a → (q : Read (List Bit))
-            → together (ranOf e a (got bs m)) (alarmedOf (b .bits) q)
+        by-alarms : (bs : List Block) (m : ℕ) → length bs ≡ n → b ≡ turnsTo e bs (length bs) a → (q : Read (List Bit))
+            → together n (ranOf e a (got bs m)) (alarmedOf (b .bits) q)
             ≡ attemptOf e a (andThen q (λ rs z. got (record { blocks = bs; alarms = rs }) z))
-        by-alarms bs m v (got rs z) = rw v
-        by-alarms bs m v (fault y z) = same (acceptable bs)
+        by-alarms bs m l v (got rs z) = rw (v, l)
+        by-alarms bs m l v (fault y z) = same (acceptable bs)
 
         go : (q : Read (List Block)) → blocksAt (firstBlocks n) n s at ≡ q
-            → together (ranOf e a q) (alarmedOf (b .bits) (alarmsAt (firstBlocks n) s (ranOf e a q .next)))
+            → together n (ranOf e a q) (alarmedOf (b .bits) (alarmsAt (firstBlocks n) s (ranOf e a q .next)))
             ≡ attemptOf e a (andThen q (λ bs at. andThen (alarmsAt (firstBlocks n) s at) (λ rs z. got (record { blocks = bs; alarms = rs }) z)))
-        go (got bs m) q = by-alarms bs m (w ∙ rw (while-all (firstBlocks n) n s at q)) (alarmsAt (firstBlocks n) s m)
+        go (got bs m) q = by-alarms bs m (blocks-long (firstBlocks n) n s at q) (w ∙ rw (while-all (firstBlocks n) n s at q)) (alarmsAt (firstBlocks n) s m)
         go (fault y z) q = refl

@@ -34,15 +34,16 @@ alarmedOf bits (fault n at) = noAlarms
 abbrev pub toEnd : List ℕ → Read (List Bit) → Read (List Bit)
 toEnd s r = andThen r (λ rs at. endAt rs s at)
 
--- the whole program: whether it is accepted, its steps and its alarm word
+-- the whole program: whether it is accepted, the number of its blocks, its steps and its alarm word
 abbrev pub noAttempt : Outcome
-noAttempt = record { good = false; steps = 0; alarms = 0 }
+noAttempt = record { good = false; blocks = 0; steps = 0; alarms = 0 }
 
 abbrev pub attemptOf : ℕ → Arrays → Read Program → Outcome
 attemptOf e a (got p end) =
     pick (acceptable (p .blocks))
     (record {
       good = true;
+      blocks = length (p .blocks);
       steps = turnSteps e (p .blocks) (length (p .blocks)) a;
       alarms = packed (map (bitIn (turnsTo e (p .blocks) (length (p .blocks)) a .bits)) (p .alarms));
     })

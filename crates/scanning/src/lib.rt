@@ -190,9 +190,10 @@ pub fn alarms(s: &[u8], at: usize, bits: &[bool; 234], known: &[u8; 200]) -> Ala
     }
 }
 
-// Whether the program is accepted, and if it is its steps and its alarm word.
+// Whether the program is accepted, and if it is the number of its blocks, its steps and its alarm word.
 pub struct Outcome {
     pub good: bool,
+    pub blocks: u32,
     pub steps: u32,
     pub alarms: u32,
 }
@@ -203,6 +204,7 @@ fn refused() -> Outcome
 {
     Outcome {
         good: false,
+        blocks: 0,
         steps: 0,
         alarms: 0,
     }
@@ -236,6 +238,7 @@ pub fn attempt(
             }
             Outcome {
                 good: true,
+                blocks: n,
                 steps: r.steps,
                 alarms: a.word,
             }
