@@ -1,5 +1,5 @@
 -- The attempt of a program, against its acceptance and its scan: it is good if and only if the program is accepted, and then it is the scan. Assumes nothing.
-use Prim.Native.Nat.{ℕ}
+use Prim.Native.Nat.{ℕ, _≤_}
 use mathlib.Core.Path.{_≡_, refl, sym, ap, _∙_}
 use mathlib.Core.Bool.{Bool, true, false}
 use mathlib.Core.List.{List}
@@ -25,6 +25,8 @@ use Rattle.scanning.specs.Arrays.{Arrays, turnsTo, turnSteps, blocksWhil
 use Rattle.scanning.specs.Loading.{loaded}
 use Rattle.scanning.specs.Trials.{noAttempt, attemptOf, attempted, afterAttempt}
 use Rattle.scanning.specs.declared.Outcome.{Outcome}
+use Rattle.program.proofs.Laws.{blocks-long}
+use Rattle.block.proofs.Expressions.{typed-below}
 use Rattle.scanning.proofs.Blocks.{while-all}
 use Rattle.scanning.proofs.Loaded.{alarms-loaded, turns-loaded, steps-loaded}
 
@@ -82,7 +84,7 @@ parts-of k s {n} {at} e {p} {end} h = by-blocks (blocksAt k n s at) refl (rw e a
 
 -- what a good attempt is: the scan of the program, in its answer and in its arrays
 pub data Scans (x : Inputs) (ps : List Place) (s : List ℕ) : Type 0 where
-  scans : (p : Program) (end : ℕ) → programAt everyBlock s ≡ got p end
+  scans : (p : Program) (end : ℕ) → programAt everyBlock s ≡ got p end → length (p .blocks) ≤ 200
       → attempted (x .elapsed) (loaded x ps) s
       ≡ record {
         good = true;
@@ -104,7 +106,8 @@ module _ (x : Inputs) (eight : length (x .words) ≡ 8) (ps : List Place) (s : L
       let qs : List Place = scanTo x (p .blocks) (length (p .blocks)) ps in
       let t : turnsTo (x .elapsed) (p .blocks) (length (p .blocks)) (loaded x ps) ≡ loaded x qs = rw w at (turns-loaded x eight k n s at ps (length cs) (omega arith)) in
       let c : turnSteps (x .elapsed) (p .blocks) (length (p .blocks)) (loaded x ps) ≡ stepsTo x (p .blocks) (length (p .blocks)) ps = rw w at (steps-loaded x eight k n s at ps (length cs) (omega arith)) in
-      scans p end (trial-read s e h) (rw (e, h, a, c, t, alarms-loaded x qs k s m q)) (rw (e, w, t))
+      let few : length (p .blocks) ≤ 200 = omega (arith, blocks-long k n s at b, typed-below everyBlock blockCount 0 s 0 e) in
+      scans p end (trial-read s e h) few (rw (e, h, a, c, t, alarms-loaded x qs k s m q)) (rw (e, w, t))
 
   pub attempt-answers : attempted (x .elapsed) (loaded x ps) s .good ≡ true → Scans x ps s
   unfolding attempted

@@ -1,6 +1,7 @@
 pub mod Agree
 pub mod AlarmWord
 pub mod Attempts
+pub mod Beyond
 pub mod Blocks
 pub mod Figures
 pub mod Going
