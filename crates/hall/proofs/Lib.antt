@@ -1,6 +1,7 @@
-pub mod Agree
-pub mod Values
-pub mod Runs
-pub mod Lists
-pub mod Alarms
-pub mod Programs
+pub mod Counts
+pub mod Images
+pub mod Scans
+pub mod Figures
+pub mod Takes
+pub mod States
+pub mod Stores

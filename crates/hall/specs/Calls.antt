@@ -15,7 +15,7 @@ use Rattle.hall.specs.declared.State.{State}
 use Rattle.hall.specs.declared.Scanned.{Scanned}
 use Rattle.hall.specs.declared.Handed.{Handed}
 use Rattle.hall.specs.State.{goodState}
-use Rattle.hall.specs.Scan.{Inputs, scanTo, stepsTo, alarmWord}
+use Rattle.scanning.specs.Scan.{Inputs, scanTo, stepsTo, alarmWord}
 
 -- Numbers of refusal: "5 bad state", "6 elapsed would carry the time over 2^64 − 1, or missed is over 2^64 − 33"
 abbrev pub badState : ℕ

@@ -1,4 +1,4 @@
 pub mod State
-pub mod Scan
 pub mod Calls
+pub mod Images
 pub mod Answers

@@ -1,30 +1,30 @@
-// The controller: a state, and the calls `fresh`, `accept`, `scan` and `take`.
-use block::End;
-use block::Number;
+// The controller: a state, and the calls `fresh`, `accept`, `scan` and `take`; each call on a state also in place, on the arrays of its image.
 use journal::Entry;
 use journal::Journal;
 use journal::Stamp;
 use program::Acceptance;
 use rules::Place;
 ghost use mathlib.Core.Path.{_≡_};
-ghost use mathlib.Core.Bool.{true, false};
-ghost use Prim.Native.Nat.{_+_, _-_, _^_, _≤_, _<_};
-ghost use mathlib.Core.List.{_∷_};
-ghost use lib.ListN.{take};
-ghost use Rattle.wire.specs.Choice.{pick, every};
-ghost use Rattle.block.specs.Reading.{typedAt};
-ghost use Rattle.block.specs.Kinds.{bitRef};
-ghost use Rattle.program.specs.Program.{blocksAt, referencesAt, alarmsAt, programAt};
-ghost use Rattle.program.specs.Acceptance.{accepted, everyBlock};
-ghost use Rattle.expression.specs.Expression.{bitIn};
-ghost use Rattle.hall.specs.State.{freshState, goodPlace, goodState};
-ghost use Rattle.hall.specs.Calls.{refusedScan, refusedTake, answerOf, late, scanOf, takeOf};
-ghost use Rattle.hall.specs.Answers.{Whole, inputs, lateBy, inputsFrom, bitsOf, wordsOf, ranOf, wordOfBits};
+ghost use mathlib.Core.Bool.{true, _&&_};
+ghost use mathlib.Core.List.{map};
+ghost use Prim.Native.Nat.{_+_, _^_, _≤_, _<_};
+ghost use lib.ListN.{length, getD};
+ghost use Rattle.image.specs.Image.{numberOf, timeOf};
+ghost use Rattle.program.specs.Acceptance.{accepted};
+ghost use Rattle.hall.specs.State.{freshState, goodState};
+ghost use Rattle.hall.specs.Calls.{scanOf, takeOf};
+ghost use Rattle.hall.specs.Answers.{inputs, lateBy, byProgram, risenIn};
+ghost use Rattle.hall.specs.Images.{image, sizedImage, isImage, stateIn, countsOf, refusedAnswer, refusedTaken, scannedIn, afterScan, takenIn, afterTake, freshedIn, afterFresh};
 
 // Numbers of refusal beside those of acceptance.
 const BAD_STATE: u8 = 5;
 
 const TOO_FAR: u8 = 6;
+
+// The most that a good state has.
+const MOST_TICKS: u32 = 6553399;
+
+const MOST_PINS: u8 = 15;
 
 // All that is kept from call to call.
 pub struct State {
@@ -52,6 +52,21 @@ pub struct Handed {
     pub entry: Entry,
 }
 
+// The same answers where the state is kept in arrays.
+pub struct ScanAnswer {
+    pub refusal: u8,
+    pub place: usize,
+    pub alarms: u32,
+    pub steps: u32,
+    pub rises: u32,
+}
+
+pub struct TakeAnswer {
+    pub refusal: u8,
+    pub found: bool,
+    pub entry: Entry,
+}
+
 // A state in which nothing has happened.
 pub fn fresh() -> State
     ensures { λ r. ⌜ r ≡ freshState ⌝ }
@@ -71,226 +86,82 @@ pub fn accept(program: &[u8]) -> Acceptance
     program::accept(program)
 }
 
-// Whether a place is one that rules can leave.
-fn good_place(p: Place) -> bool
-    ensures { λ r. ⌜ r ≡ goodPlace p ⌝ }
+// Whether the arrays have the lengths of an image.
+fn sized(
+    counts: &[u64],
+    times: &[u64],
+    numbers: &[u8],
+    ticks: &[u32],
+    words: &[i16],
+    pins: &[u8],
+    outputs: &[u8],
+) -> bool
+    ensures { λ r. ⌜ r ≡ sizedImage (image (now (counts .entry)) (now (times .entry)) (now (numbers .entry)) (now (ticks .entry)) (now (words .entry)) (now (pins .entry)) (now (outputs .entry))) ⌝ }
 {
-    if p.ticks <= 6553399 {
-        return p.pins <= 15;
-    }
-    false
-}
-
-fn good_places(ps: [Place; 200]) -> bool
-    ensures { λ r. ⌜ r ≡ every goodPlace ps ⌝ }
-{
-    let mut i: usize = 0;
-    while i < 200 {
-        let p = ps[i];
-        if !good_place(p) {
-            return false;
-        }
-        i += 1;
-    }
-    true
-}
-
-// The state check.
-fn good(s: State) -> bool
-    ensures { λ r. ⌜ r ≡ goodState s ⌝ }
-{
-    let ps = s.places;
-    if !good_places(ps) {
+    if counts.len() != 4 {
         return false;
     }
-    let j = s.journal;
-    j.good()
+    if times.len() != 32 {
+        return false;
+    }
+    if numbers.len() != 32 {
+        return false;
+    }
+    if ticks.len() != 200 {
+        return false;
+    }
+    if words.len() != 200 {
+        return false;
+    }
+    if pins.len() != 200 {
+        return false;
+    }
+    outputs.len() == 200
+}
+
+// The state check: whether the arrays are the image of a good state.
+fn good(
+    counts: &[u64],
+    times: &[u64],
+    numbers: &[u8],
+    ticks: &[u32],
+    words: &[i16],
+    pins: &[u8],
+    outputs: &[u8],
+) -> bool
+    requires { ⌜ sizedImage (image (now counts) (now times) (now numbers) (now ticks) (now words) (now pins) (now outputs)) ≡ true ⌝ }
+    ensures { λ r. ⌜ r ≡ (isImage (image (now (counts .entry)) (now (times .entry)) (now (numbers .entry)) (now (ticks .entry)) (now (words .entry)) (now (pins .entry)) (now (outputs .entry))) && goodState (stateIn (image (now (counts .entry)) (now (times .entry)) (now (numbers .entry)) (now (ticks .entry)) (now (words .entry)) (now (pins .entry)) (now (outputs .entry))))) ⌝ }
+{
+    if !image::ticks_within(ticks, MOST_TICKS) {
+        return false;
+    }
+    if !image::bytes_within(pins, MOST_PINS) {
+        return false;
+    }
+    if !image::bytes_within(outputs, 1) {
+        return false;
+    }
+    if 4294967295 < counts[3] {
+        return false;
+    }
+    image::good_journal(counts[2], numbers, times)
 }
 
 // Whether the time or the number missed would not fit.
-fn is_late(elapsed: u16, s: State) -> bool
-    ensures { λ r. ⌜ r ≡ lateBy elapsed s ⌝ }
+fn is_late(elapsed: u16, time: u64, missed: u64) -> bool
+    ensures { λ r. ⌜ r ≡ lateBy elapsed time missed ⌝ }
 {
-    if 18446744073709551615 - (elapsed as u64) < s.time {
+    if 18446744073709551615 - (elapsed as u64) < time {
         return true;
     }
-    let j = s.journal;
-    18446744073709551583 < j.missed
-}
-
-// Off, on and the input bits, at the front of what bit references read as.
-fn inputs_of(bits: u32) -> [bool; 234]
-    ensures { λ r. ⌜ take 34 r ≡ false ∷ true ∷ inputsFrom 32 0 bits ⌝ }
-{
-    let mut v = [false; 234];
-    v[1] = true;
-    let mut i: usize = 0;
-    while i < 32 {
-        let k = i as u32;
-        v[i + 2] = (bits >> k) % 2 == 1;
-        i += 1;
-    }
-    v
-}
-
-// What bit references read as, in the order of their numbers.
-fn bits_of(bits: u32, ps: [Place; 200]) -> [bool; 234]
-    ensures { λ r. ⌜ r ≡ bitsOf bits ps ⌝ }
-{
-    let mut v = inputs_of(bits);
-    let mut j: usize = 0;
-    while j < 200 {
-        let p = ps[j];
-        v[j + 34] = p.out;
-        j += 1;
-    }
-    v
-}
-
-// The analog words, at the front of what word references read as.
-fn analogs_of(words: [i16; 8]) -> [i16; 208]
-    ensures { λ r. ⌜ take 8 r ≡ words ⌝ }
-{
-    let mut w = [0i16; 208];
-    let mut i: usize = 0;
-    while i < 8 {
-        let a = words[i];
-        w[i] = a;
-        i += 1;
-    }
-    w
-}
-
-// What word references below 208 read as, in the order of their numbers.
-fn words_of(words: [i16; 8], ps: [Place; 200]) -> [i16; 208]
-    ensures { λ r. ⌜ r ≡ wordsOf words ps ⌝ }
-{
-    let mut w = analogs_of(words);
-    let mut j: usize = 0;
-    while j < 200 {
-        let p = ps[j];
-        let a = p.word;
-        w[j + 8] = a;
-        j += 1;
-    }
-    w
-}
-
-// The places after a run over blocks, what bit references read as then, the steps, and the place after the blocks.
-pub struct Ran {
-    pub places: [Place; 200],
-    pub bits: [bool; 234],
-    pub steps: u32,
-    pub next: usize,
-}
-
-// Runs n blocks from `start` on, in ascending number.
-fn run(
-    s: &[u8],
-    start: usize,
-    n: u32,
-    places: [Place; 200],
-    elapsed: u16,
-    bits: u32,
-    words: [i16; 8],
-    known: &[u8; 200],
-) -> Ran
-    requires { ⌜ (n ≤ 200) × Whole (blocksAt (now known) n (now s) start) ⌝ }
-    ensures { λ r. ⌜ r ≡ ranOf (inputs elapsed bits words) places (blocksAt (now (known .entry)) n (now (s .entry)) start) ⌝ }
-{
-    let mut ps = places;
-    let mut v = bits_of(bits, places);
-    let mut w = words_of(words, places);
-    let mut steps: u32 = 0;
-    let mut at = start;
-    let count = n as usize;
-    let mut i: usize = 0;
-    while i < count {
-        let p = ps[i];
-        let t = running::turn(s, at, p, &v, &w, elapsed, known);
-        let q = t.place;
-        let end = t.end;
-        match end {
-            End::Fault(_, _) => {
-                return Ran {
-                    places: ps,
-                    bits: v,
-                    steps,
-                    next: at,
-                };
-            }
-            End::Next(next) => {
-                let a = q.word;
-                ps[i] = q;
-                v[i + 34] = q.out;
-                w[i + 8] = a;
-                steps += t.steps;
-                at = next;
-            }
-        }
-        i += 1;
-    }
-    Ran {
-        places: ps,
-        bits: v,
-        steps,
-        next: at,
-    }
-}
-
-// The weight of an alarm's bit if the reference reads as on, else nothing.
-fn weigh(bits: &[bool; 234], r: u32, weight: u64) -> u64
-    requires { ⌜ r < 234 ⌝ }
-    ensures { λ w. ⌜ w ≡ pick (bitIn (now (bits .entry)) (bitRef r)) weight 0 ⌝ }
-{
-    let k = r as usize;
-    if bits[k] { weight } else { 0 }
-}
-
-// The word of n bit references from `start` on, the first lowest.
-fn word_of(s: &[u8], start: usize, n: u32, bits: &[bool; 234], known: &[u8; 200]) -> u32
-    requires { ⌜ (n ≤ 32) × Whole (referencesAt (now known) n (now s) start) ⌝ }
-    ensures { λ r. ⌜ r ≡ wordOfBits (bitIn (now (bits .entry))) (referencesAt (now (known .entry)) n (now (s .entry)) start) ⌝ }
-{
-    let mut word: u64 = 0;
-    let mut weight: u64 = 1;
-    let mut at = start;
-    let mut left = n;
-    while 0 < left {
-        let r = block::read_number(s, at, block::PIN, 0, known);
-        match r {
-            Number::Fault(_, _) => {
-                return 0;
-            }
-            Number::Got(v, next) => {
-                word += weigh(bits, v, weight);
-                weight *= 2;
-                at = next;
-            }
-        }
-        left -= 1;
-    }
-    word as u32
-}
-
-// The alarm word of the alarms at a place.
-fn alarm_word(s: &[u8], at: usize, bits: &[bool; 234], known: &[u8; 200]) -> u32
-    requires { ⌜ Whole (alarmsAt (now known) (now s) at) ⌝ }
-    ensures { λ r. ⌜ r ≡ wordOfBits (bitIn (now (bits .entry))) (alarmsAt (now (known .entry)) (now (s .entry)) at) ⌝ }
-{
-    let c = block::read_number(s, at, block::ALARM_COUNT, 0, known);
-    match c {
-        Number::Fault(_, _) => 0,
-        Number::Got(n, next) => word_of(s, next, n, bits, known),
-    }
+    18446744073709551583 < missed
 }
 
 // A scan that is refused.
-fn refuse(state: State, no: u8, at: usize) -> Scanned
-    ensures { λ r. ⌜ r ≡ refusedScan state no at ⌝ }
+fn refuse(no: u8, at: usize) -> ScanAnswer
+    ensures { λ r. ⌜ r ≡ refusedAnswer no at ⌝ }
 {
-    Scanned {
-        state,
+    ScanAnswer {
         refusal: no,
         place: at,
         alarms: 0,
@@ -299,39 +170,174 @@ fn refuse(state: State, no: u8, at: usize) -> Scanned
     }
 }
 
-// The scan of a program that can be read, of a state that can go on.
-fn answer(program: &[u8], state: State, elapsed: u16, bits: u32, words: [i16; 8]) -> Scanned
-    requires { ⌜ Whole (programAt everyBlock (now program)) × ((state .time + elapsed < 2 ^ 64) × (state .journal .missed + 32 < 2 ^ 64)) ⌝ }
-    ensures { λ r. ⌜ r ≡ answerOf (inputs elapsed bits words) state (programAt everyBlock (now (program .entry))) ⌝ }
+// A scan that is refused for its program if that is not accepted, else for its state.
+fn refuse_by(program: &[u8]) -> ScanAnswer
+    ensures { λ r. ⌜ r ≡ byProgram (accepted (now (program .entry))) ⌝ }
 {
-    let every = [2u8; 200];
-    let c = block::read_number(program, 0, block::BLOCK_COUNT, 0, &every);
-    match c {
-        Number::Fault(no, place) => refuse(state, no, place),
-        Number::Got(n, next) => {
-            let places = state.places;
-            let r = run(program, next, n, places, elapsed, bits, words, &every);
-            let new_bits = r.bits;
-            let alarms = alarm_word(program, r.next, &new_bits, &every);
-            let time = state.time + (elapsed as u64);
-            let j = state.journal;
-            let risen = j.rise(alarms, state.alarms, Stamp { time });
-            let new_places = r.places;
-            let new_journal = risen.journal;
-            Scanned {
-                state: State {
-                    places: new_places,
-                    time,
-                    alarms,
-                    journal: new_journal,
-                },
-                refusal: 0,
-                place: 0,
-                alarms,
-                steps: r.steps,
-                rises: risen.rises,
-            }
-        }
+    let a = program::accept(program);
+    if a.refusal != 0 {
+        return refuse(a.refusal, a.place);
+    }
+    refuse(BAD_STATE, 0)
+}
+
+// The end of a scan: the time as just grown, the alarm word, and the alarms that rose in the journal; how many rose.
+fn close(counts: &mut [u64], times: &mut [u64], numbers: &mut [u8], time: u64, word: u32) -> u32
+    requires { ⌜ ((length (now counts) ≡ 4) × ((length (now times) ≡ 32) × (length (now numbers) ≡ 32))) × ((getD (now counts) 1 0 + 32 < 2 ^ 64) × (getD (now counts) 3 0 < 2 ^ 32)) ⌝ }
+    ensures { λ r. ⌜ r ≡ (risenIn time word (now (counts .entry)) (now (times .entry)) (now (numbers .entry))) .rises ⌝ }
+    ensures after { λ r. ⌜ (now (counts .exit) ≡ countsOf time word ((risenIn time word (now (counts .entry)) (now (times .entry)) (now (numbers .entry))) .journal)) × ((now (times .exit) ≡ map timeOf ((risenIn time word (now (counts .entry)) (now (times .entry)) (now (numbers .entry))) .journal .entries)) × (now (numbers .exit) ≡ map numberOf ((risenIn time word (now (counts .entry)) (now (times .entry)) (now (numbers .entry))) .journal .entries))) ⌝ }
+{
+    let last = counts[3] as u32;
+    counts[0] = time;
+    counts[3] = word as u64;
+    let rises = journal::rises(word, last);
+    if rises == 0 {
+        return 0;
+    }
+    let j = image::journal_in(counts[2], counts[1], numbers, times);
+    let r = j.rise(word, last, Stamp { time });
+    let k = r.journal;
+    image::put_entries(k, numbers, times);
+    counts[1] = k.missed;
+    counts[2] = k.held as u64;
+    rises
+}
+
+// One scan of a program, on a state that is kept in arrays.
+pub fn scan_in(
+    program: &[u8],
+    counts: &mut [u64],
+    times: &mut [u64],
+    numbers: &mut [u8],
+    ticks: &mut [u32],
+    words: &mut [i16],
+    pins: &mut [u8],
+    outputs: &mut [u8],
+    elapsed: u16,
+    bits: u32,
+    analogs: [i16; 8],
+) -> ScanAnswer
+    ensures { λ r. ⌜ r ≡ scannedIn (now (program .entry)) (inputs elapsed bits analogs) (image (now (counts .entry)) (now (times .entry)) (now (numbers .entry)) (now (ticks .entry)) (now (words .entry)) (now (pins .entry)) (now (outputs .entry))) ⌝ }
+    ensures after { λ r. ⌜ image (now (counts .exit)) (now (times .exit)) (now (numbers .exit)) (now (ticks .exit)) (now (words .exit)) (now (pins .exit)) (now (outputs .exit)) ≡ afterScan (now (program .entry)) (inputs elapsed bits analogs) (image (now (counts .entry)) (now (times .entry)) (now (numbers .entry)) (now (ticks .entry)) (now (words .entry)) (now (pins .entry)) (now (outputs .entry))) ⌝ }
+{
+    if !sized(counts, times, numbers, ticks, words, pins, outputs) {
+        return refuse_by(program);
+    }
+    let mut v = image::bits_in(bits, outputs);
+    let mut w = image::words_in(analogs, words);
+    let mut t = image::copy_ticks(ticks);
+    let mut q = image::copy_pins(pins);
+    let a = scanning::attempt(program, elapsed, &mut v, &mut w, &mut t, &mut q);
+    if !a.good {
+        return refuse_by(program);
+    }
+    if !good(counts, times, numbers, ticks, words, pins, outputs) {
+        return refuse(BAD_STATE, 0);
+    }
+    if is_late(elapsed, counts[0], counts[1]) {
+        return refuse(TOO_FAR, 0);
+    }
+    image::put_outputs(a.blocks, &v, outputs);
+    image::put_words(a.blocks, &w, words);
+    image::put_ticks(a.blocks, &t, ticks);
+    image::put_pins(a.blocks, &q, pins);
+    let time = counts[0] + (elapsed as u64);
+    let rises = close(counts, times, numbers, time, a.alarms);
+    ScanAnswer {
+        refusal: 0,
+        place: 0,
+        alarms: a.alarms,
+        steps: a.steps,
+        rises,
+    }
+}
+
+// A take that is refused.
+fn refuse_take() -> TakeAnswer
+    ensures { λ r. ⌜ r ≡ refusedTaken ⌝ }
+{
+    TakeAnswer {
+        refusal: BAD_STATE,
+        found: false,
+        entry: Entry::zero(),
+    }
+}
+
+// Hands out the oldest entry of the journal of a state that is kept in arrays.
+pub fn take_in(
+    counts: &mut [u64],
+    times: &mut [u64],
+    numbers: &mut [u8],
+    ticks: &mut [u32],
+    words: &mut [i16],
+    pins: &mut [u8],
+    outputs: &mut [u8],
+) -> TakeAnswer
+    ensures { λ r. ⌜ r ≡ takenIn (image (now (counts .entry)) (now (times .entry)) (now (numbers .entry)) (now (ticks .entry)) (now (words .entry)) (now (pins .entry)) (now (outputs .entry))) ⌝ }
+    ensures after { λ r. ⌜ image (now (counts .exit)) (now (times .exit)) (now (numbers .exit)) (now (ticks .exit)) (now (words .exit)) (now (pins .exit)) (now (outputs .exit)) ≡ afterTake (image (now (counts .entry)) (now (times .entry)) (now (numbers .entry)) (now (ticks .entry)) (now (words .entry)) (now (pins .entry)) (now (outputs .entry))) ⌝ }
+{
+    if !sized(counts, times, numbers, ticks, words, pins, outputs) {
+        return refuse_take();
+    }
+    if !good(counts, times, numbers, ticks, words, pins, outputs) {
+        return refuse_take();
+    }
+    let j = image::journal_in(counts[2], counts[1], numbers, times);
+    let t = j.take();
+    let k = t.journal;
+    let e = t.entry;
+    image::put_entries(k, numbers, times);
+    counts[2] = k.held as u64;
+    TakeAnswer {
+        refusal: 0,
+        found: t.found,
+        entry: e,
+    }
+}
+
+// Makes the state that is kept in arrays a fresh one; a number of refusal, or 0.
+pub fn fresh_in(
+    counts: &mut [u64],
+    times: &mut [u64],
+    numbers: &mut [u8],
+    ticks: &mut [u32],
+    words: &mut [i16],
+    pins: &mut [u8],
+    outputs: &mut [u8],
+) -> u8
+    ensures { λ r. ⌜ r ≡ freshedIn (image (now (counts .entry)) (now (times .entry)) (now (numbers .entry)) (now (ticks .entry)) (now (words .entry)) (now (pins .entry)) (now (outputs .entry))) ⌝ }
+    ensures after { λ r. ⌜ image (now (counts .exit)) (now (times .exit)) (now (numbers .exit)) (now (ticks .exit)) (now (words .exit)) (now (pins .exit)) (now (outputs .exit)) ≡ afterFresh (image (now (counts .entry)) (now (times .entry)) (now (numbers .entry)) (now (ticks .entry)) (now (words .entry)) (now (pins .entry)) (now (outputs .entry))) ⌝ }
+{
+    if !sized(counts, times, numbers, ticks, words, pins, outputs) {
+        return BAD_STATE;
+    }
+    image::put_places([Place::fresh(); 200], pins, outputs, ticks, words);
+    image::put_entries(Journal::fresh(), numbers, times);
+    counts[0] = 0;
+    counts[1] = 0;
+    counts[2] = 0;
+    counts[3] = 0;
+    0
+}
+
+// The state of arrays that are an image.
+fn state_in(
+    counts: &[u64],
+    times: &[u64],
+    numbers: &[u8],
+    ticks: &[u32],
+    words: &[i16],
+    pins: &[u8],
+    outputs: &[u8],
+) -> State
+    requires { ⌜ isImage (image (now counts) (now times) (now numbers) (now ticks) (now words) (now pins) (now outputs)) ≡ true ⌝ }
+    ensures { λ r. ⌜ r ≡ stateIn (image (now (counts .entry)) (now (times .entry)) (now (numbers .entry)) (now (ticks .entry)) (now (words .entry)) (now (pins .entry)) (now (outputs .entry))) ⌝ }
+{
+    State {
+        places: image::places_in(pins, outputs, ticks, words),
+        time: counts[0],
+        alarms: counts[3] as u32,
+        journal: image::journal_in(counts[2], counts[1], numbers, times),
     }
 }
 
@@ -340,41 +346,69 @@ pub fn scan(program: &[u8], state: State, elapsed: u16, bits: u32, words: [i16; 
     ensures { λ r. ⌜ r ≡ scanOf (now (program .entry)) (inputs elapsed bits words) state ⌝ }
     ensures bounded { λ r. ⌜ r .steps ≤ accepted (now (program .entry)) .steps ⌝ }
 {
-    let a = program::accept(program);
-    if a.refusal != 0 {
-        return refuse(state, a.refusal, a.place);
+    let j = state.journal;
+    let mut counts = [state.time, j.missed, j.held as u64, state.alarms as u64];
+    let mut times = [0u64; 32];
+    let mut numbers = [0u8; 32];
+    let mut ticks = [0u32; 200];
+    let mut own = [0i16; 200];
+    let mut pins = [0u8; 200];
+    let mut outputs = [0u8; 200];
+    image::put_entries(j, &mut numbers, &mut times);
+    let ps = state.places;
+    image::put_places(ps, &mut pins, &mut outputs, &mut ticks, &mut own);
+    let a = scan_in(
+        program,
+        &mut counts,
+        &mut times,
+        &mut numbers,
+        &mut ticks,
+        &mut own,
+        &mut pins,
+        &mut outputs,
+        elapsed,
+        bits,
+        words,
+    );
+    Scanned {
+        state: state_in(&counts, &times, &numbers, &ticks, &own, &pins, &outputs),
+        refusal: a.refusal,
+        place: a.place,
+        alarms: a.alarms,
+        steps: a.steps,
+        rises: a.rises,
     }
-    if !good(state) {
-        return refuse(state, BAD_STATE, 0);
-    }
-    if is_late(elapsed, state) {
-        return refuse(state, TOO_FAR, 0);
-    }
-    answer(program, state, elapsed, bits, words)
 }
 
 // Hands out the oldest entry of the journal.
 pub fn take(state: State) -> Handed
     ensures { λ r. ⌜ r ≡ takeOf state ⌝ }
 {
-    if !good(state) {
-        return Handed {
-            state,
-            refusal: BAD_STATE,
-            found: false,
-            entry: Entry::zero(),
-        };
-    }
     let j = state.journal;
-    let t = j.take();
-    let k = t.journal;
-    let e = t.entry;
-    let mut s = state;
-    s.journal = k;
+    let mut counts = [state.time, j.missed, j.held as u64, state.alarms as u64];
+    let mut times = [0u64; 32];
+    let mut numbers = [0u8; 32];
+    let mut ticks = [0u32; 200];
+    let mut words = [0i16; 200];
+    let mut pins = [0u8; 200];
+    let mut outputs = [0u8; 200];
+    image::put_entries(j, &mut numbers, &mut times);
+    let ps = state.places;
+    image::put_places(ps, &mut pins, &mut outputs, &mut ticks, &mut words);
+    let a = take_in(
+        &mut counts,
+        &mut times,
+        &mut numbers,
+        &mut ticks,
+        &mut words,
+        &mut pins,
+        &mut outputs,
+    );
+    let e = a.entry;
     Handed {
-        state: s,
-        refusal: 0,
-        found: t.found,
+        state: state_in(&counts, &times, &numbers, &ticks, &words, &pins, &outputs),
+        refusal: a.refusal,
+        found: a.found,
         entry: e,
     }
 }

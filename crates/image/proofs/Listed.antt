@@ -3,17 +3,17 @@ use mathlib.Core.Path.{_≡_, refl, sym, ap, ap₂, _∙_}
 use mathlib.Core.Bool.{Bool, true, false, _&&_}
 use mathlib.Core.List.{List, [], _∷_, _++_, map}
 use Prim.Native.Nat.{ℕ, zero, suc, _+_, _<_}
-use native.Mathlib.Nat.{add-zero, zero-add, le-of-suc-le-suc, not-suc-le-zero}
+use native.Mathlib.Nat.{add-zero, le-of-suc-le-suc, not-suc-le-zero}
 use native.Mathlib.Omega.{arith}
 use lib.IntN.{ℤ, pos}
 use lib.Dec.{leb}
-use lib.ListN.{length, getD, List·getD-map}
+use lib.ListN.{length, getD, drop, List·getD-map}
 use Rattle.wire.specs.Choice.{every}
 use Rattle.rules.specs.declared.Place.{Place}
 use Rattle.rules.specs.Rules.{freshPlace}
 use Rattle.journal.specs.declared.Entry.{Entry}
-use Rattle.journal.specs.Journal.{zeroEntry, numbered}
-use Rattle.image.specs.Image.{listed, byteOf, isOn, atMost, placeIn, placesIn, entryIn, entriesIn, pinsOf, outputOf, ticksOf, wordOfPlace, numberOf, timeOf}
+use Rattle.journal.specs.Journal.{zeroEntry, numbered, empty, noStamp}
+use Rattle.image.specs.Image.{listed, byteOf, isOn, isZero, atMost, placeIn, placesIn, entryIn, entriesIn, pinsOf, outputOf, ticksOf, wordOfPlace, numberOf, timeOf}
 
 pub listed-long : {A : Type 0} (n i : ℕ) (f : ℕ → A) → length (listed n i f) ≡ n
 unfolding listed
@@ -79,6 +79,15 @@ pub every-map : {A B : Type 0} (t : B → Bool) (g : A → B) (l : List A) → e
 every-map t g [] = refl
 every-map t g (x ∷ l) = ap (λ (b : Bool). t (g x) && b) (every-map t g l)
 
+-- of what is left of a list, by the test of its column
+drop-map : {A B : Type 0} (g : A → B) (n : ℕ) (l : List A) → drop n (map g l) ≡ map g (drop n l)
+drop-map g zero l = refl
+drop-map g (suc n) [] = refl
+drop-map g (suc n) (x ∷ l) = drop-map g n l
+
+every-column : {A B : Type 0} (t : B → Bool) (g : A → B) (n : ℕ) (l : List A) → every (λ x. t (g x)) (drop n l) ≡ every t (drop n (map g l))
+every-column t g n l = sym (every-map t g (drop n l)) ∙ ap (every t) (sym (drop-map g n l))
+
 -- an output's byte tells whether it is on
 pub on-of-byte : (b : Bool) → isOn (byteOf b) ≡ b
 on-of-byte true = refl
@@ -133,15 +142,6 @@ places-of-columns ps e =
     listed-same 200 0 (placeIn (map pinsOf ps) (map outputOf ps) (map ticksOf ps) (map wordOfPlace ps)) (λ k. getD ps k freshPlace) (place-of-columns ps)
     ∙ listed-all 200 ps freshPlace e
 
--- there are 32 entries, and each is made of its numbers
-pub entries-long : (numbers times : List ℕ) → length (entriesIn numbers times) ≡ 32
-unfolding entriesIn
-entries-long numbers times = listed-long 32 0 (entryIn numbers times)
-
-pub entries-at : (numbers times : List ℕ) (i : ℕ) (d : Entry) → i < 32 → getD (entriesIn numbers times) i d ≡ entryIn numbers times i
-unfolding entriesIn
-entries-at numbers times i d h = listed-at 32 0 (entryIn numbers times) i d h ∙ ap (entryIn numbers times) (zero-add i)
-
 -- the columns of the entries
 module _ (numbers times : List ℕ) where
   pub numbers-of-entries : length numbers ≡ 32 → map numberOf (entriesIn numbers times) ≡ numbers
@@ -157,6 +157,18 @@ module _ (numbers times : List ℕ) where
   unfolding numbered
   numbered-by-column e =
       sym (every-map (atMost 31) numberOf (entriesIn numbers times)) ∙ ap (every (atMost 31)) (numbers-of-entries e)
+
+  -- every entry from here on is zero when both columns are zero there
+  pub empty-by-columns :
+      (from : ℕ) → length numbers ≡ 32 → length times ≡ 32
+      → every empty (drop from (entriesIn numbers times)) ≡ (every isZero (drop from numbers) && every isZero (drop from times))
+  unfolding empty noStamp
+  empty-by-columns from n t =
+      let es = entriesIn numbers times in
+      every-both (λ (e : Entry). isZero (e .number)) (λ (e : Entry). isZero (e .stamp .time)) (drop from es)
+      ∙ ap₂ _&&_
+      (every-column isZero numberOf from es ∙ ap (λ (l : List ℕ). every isZero (drop from l)) (numbers-of-entries n))
+      (every-column isZero timeOf from es ∙ ap (λ (l : List ℕ). every isZero (drop from l)) (times-of-entries t))
 
 pub entry-of-columns : (es : List Entry) (k : ℕ) → entryIn (map numberOf es) (map timeOf es) k ≡ getD es k zeroEntry
 entry-of-columns es k = rw (List·getD-map numberOf es k zeroEntry, List·getD-map timeOf es k zeroEntry)

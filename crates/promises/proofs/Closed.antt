@@ -17,7 +17,7 @@ use Rattle.hall.specs.declared.State.{State}
 use Rattle.hall.specs.declared.Scanned.{Scanned}
 use Rattle.hall.specs.declared.Handed.{Handed}
 use Rattle.hall.specs.State.{freshState, goodPlace, goodState}
-use Rattle.hall.specs.Scan.{Inputs}
+use Rattle.scanning.specs.Scan.{Inputs}
 use Rattle.hall.specs.Calls.{badState, stampOf, answered, scanOf, handedBy, takeOf}
 use Rattle.promises.specs.Closure.{Closure}
 use Rattle.promises.specs.Demand1.{Accepting, stops, strays, overflows, passes, Scanning, refuses-program, refuses-state, refuses-time, refuses-missed, answers, Taking, refuses, hands}

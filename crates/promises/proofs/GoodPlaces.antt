@@ -18,7 +18,7 @@ use Rattle.rules.specs.declared.Place.{Place}
 use Rattle.rules.specs.Rules.{freshPlace, packed, bl, sr, pl, al, cn, ud, cp, zc, st}
 use Rattle.running.specs.Running.{fieldOf, pinOf, wordOfField, Rule, rules, ruleOf, ruled}
 use Rattle.hall.specs.State.{goodPlace}
-use Rattle.hall.specs.Scan.{Inputs, blockOf, scanTo}
+use Rattle.scanning.specs.Scan.{Inputs, blockOf, scanTo}
 use Rattle.wire.proofs.Every.{both-hold, every-at, every-replicate, every-set}
 use Rattle.promises.proofs.ReadPrograms.{Row, Rows, setting-below, period-some}
 use Rattle.promises.proofs.Ticks.{most, Few, dl-few, os-few, fl-few, og-few}

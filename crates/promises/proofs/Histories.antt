@@ -21,7 +21,7 @@ use Rattle.hall.specs.declared.State.{State}
 use Rattle.hall.specs.declared.Scanned.{Scanned}
 use Rattle.hall.specs.declared.Handed.{Handed}
 use Rattle.hall.specs.State.{freshState, goodState}
-use Rattle.hall.specs.Scan.{Inputs, readBit, scanTo, stepsTo, alarmWord}
+use Rattle.scanning.specs.Scan.{Inputs, readBit, scanTo, stepsTo, alarmWord}
 use Rattle.hall.specs.Calls.{answered, scanOf, takeOf}
 use Rattle.hall.proofs.Programs.{steps-bounded}
 use Rattle.promises.specs.History.{Call, scan, take, refusalOf, stateOf, stateAfter, entriesOf, handedOut, answeredOf, Past, freshPast, risesAt, placesThen, bitsThen, risesThen, pastScan, pastTake, pastCall, pastAfter, programOf}

@@ -17,7 +17,7 @@ use Rattle.running.specs.Running.{fieldOf}
 use Rattle.running.specs.Answers.{contents}
 use Rattle.running.proofs.Fields.{here, below, off-allowed}
 use Rattle.running.proofs.Rows.{Said, said}
-use Rattle.hall.specs.Scan.{blockOf}
+use Rattle.scanning.specs.Scan.{blockOf}
 
 -- what the fields of a block that is no BL are: allowed numbers, and what these say
 abbrev pub Row : Block → Type 0

@@ -10,7 +10,7 @@ use Rattle.program.specs.Acceptance.{accepted}
 use Rattle.program.proofs.Faults.{Good, good, accepted-good}
 use Rattle.hall.specs.declared.State.{State}
 use Rattle.hall.specs.State.{goodState}
-use Rattle.hall.specs.Scan.{Inputs}
+use Rattle.scanning.specs.Scan.{Inputs}
 use Rattle.hall.specs.Calls.{refusedScan, late, scanOf, takeOf}
 use Rattle.promises.specs.Demand1.{RefusedScan, Scanning, refuses-program, refuses-state, refuses-time, refuses-missed, answers, Taking, refuses, hands}
 

@@ -5,7 +5,7 @@ use mathlib.Core.Path.{_≡_}
 use Prim.Native.Nat.{ℕ}
 use Rattle.hall.specs.declared.State.{State}
 use Rattle.hall.specs.State.{freshState, goodState}
-use Rattle.hall.specs.Scan.{Inputs}
+use Rattle.scanning.specs.Scan.{Inputs}
 use Rattle.hall.specs.Calls.{badState, scanOf, takeOf}
 use Rattle.promises.specs.History.{Call, refusalOf, stateAfter}
 

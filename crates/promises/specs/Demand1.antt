@@ -17,7 +17,7 @@ use Rattle.hall.specs.declared.State.{State}
 use Rattle.hall.specs.declared.Scanned.{Scanned}
 use Rattle.hall.specs.declared.Handed.{Handed}
 use Rattle.hall.specs.State.{goodState}
-use Rattle.hall.specs.Scan.{Inputs}
+use Rattle.scanning.specs.Scan.{Inputs}
 use Rattle.hall.specs.Calls.{badState, tooFar, answered, scanOf, handedBy, takeOf}
 
 -- acceptance of a program

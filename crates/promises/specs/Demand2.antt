@@ -9,7 +9,7 @@ use Rattle.rules.specs.Rules.{packed}
 use Rattle.hall.specs.declared.State.{State}
 use Rattle.hall.specs.declared.Scanned.{Scanned}
 use Rattle.hall.specs.State.{freshState}
-use Rattle.hall.specs.Scan.{Inputs, stepsTo}
+use Rattle.scanning.specs.Scan.{Inputs, stepsTo}
 use Rattle.hall.specs.Calls.{scanOf}
 use Rattle.promises.specs.History.{Call, stateAfter, answeredOf, Past, freshPast, placesThen, bitsThen, risesThen, pastAfter, programOf}
 

@@ -10,7 +10,7 @@ use Rattle.program.specs.declared.Acceptance.{Acceptance}
 use Rattle.program.specs.Acceptance.{refused, taken, accepted}
 use Rattle.hall.specs.declared.State.{State}
 use Rattle.hall.specs.State.{freshState}
-use Rattle.hall.specs.Scan.{Inputs, placeOf}
+use Rattle.scanning.specs.Scan.{Inputs, placeOf}
 use Rattle.hall.specs.Calls.{scanOf}
 
 -- what is seen of a scan: the output and the word of block 0, and the steps

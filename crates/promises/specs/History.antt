@@ -14,7 +14,7 @@ use Rattle.rules.specs.Rules.{freshPlace}
 use Rattle.journal.specs.declared.Entry.{Entry}
 use Rattle.journal.specs.Journal.{entryOf}
 use Rattle.hall.specs.declared.State.{State}
-use Rattle.hall.specs.Scan.{Inputs, readBit, scanTo}
+use Rattle.scanning.specs.Scan.{Inputs, readBit, scanTo}
 use Rattle.hall.specs.Calls.{scanOf, takeOf}
 
 -- ---- what the controller does

@@ -8,7 +8,7 @@ use lib.ListN.{length, drop}
 use Rattle.wire.specs.Choice.{pick}
 use Rattle.hall.specs.declared.State.{State}
 use Rattle.hall.specs.declared.Scanned.{Scanned}
-use Rattle.hall.specs.Scan.{Inputs}
+use Rattle.scanning.specs.Scan.{Inputs}
 use Rattle.hall.specs.Calls.{scanOf}
 use Rattle.recording.specs.Recording.{Part, part, broken, scanAt}
 use Rattle.recording.specs.Listing.{Told, ended, lineOf, refusedLine, toldBy, toldIn, toldAt, linesAt}

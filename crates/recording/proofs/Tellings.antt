@@ -9,7 +9,7 @@ use lib.Seq.{length-sets, length-take-le}
 use lib.Dec.{ltb, eqb}
 use borrow.Author.Tests.{lt-ltb, le-ltb}
 use Rattle.wire.proofs.Choice.{pick-case}
-use Rattle.hall.specs.Scan.{Inputs}
+use Rattle.scanning.specs.Scan.{Inputs}
 use Rattle.hall.specs.Answers.{inputs}
 use Rattle.hall.specs.Calls.{scanOf}
 use Rattle.hall.specs.declared.State.{State}

@@ -6,7 +6,7 @@ use Prim.Native.Nat.{ℕ, _+_, _-_, _≤_}
 use lib.IntN.{pos}
 use lib.ListN.{length, take, drop, replicate}
 use lib.Seq.{sets}
-use Rattle.hall.specs.Scan.{Inputs}
+use Rattle.scanning.specs.Scan.{Inputs}
 use Rattle.recording.specs.Recording.{Part, part, broken, scanBytes}
 use Rattle.recording.specs.Listing.{Told, Opening}
 use Rattle.recording.specs.declared.Short.{Short}

@@ -12,7 +12,7 @@ use Rattle.program.specs.Acceptance.{accepted}
 use Rattle.hall.specs.declared.State.{State}
 use Rattle.hall.specs.declared.Scanned.{Scanned}
 use Rattle.hall.specs.State.{freshState}
-use Rattle.hall.specs.Scan.{Inputs}
+use Rattle.scanning.specs.Scan.{Inputs}
 use Rattle.hall.specs.Calls.{scanOf}
 use Rattle.recording.specs.Recording.{Part, part, broken, scanAt}
 

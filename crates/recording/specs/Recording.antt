@@ -8,7 +8,7 @@ use Rattle.wire.specs.declared.Num.{Num}
 use Rattle.wire.specs.declared.Num.the-variants.{Got, Bad, Cut}
 use Rattle.wire.specs.Number.{numberAt}
 use Rattle.running.specs.Running.{signed}
-use Rattle.hall.specs.Scan.{Inputs}
+use Rattle.scanning.specs.Scan.{Inputs}
 
 -- what stands at a place and the place after it, or something "cut, malformed or out of range"
 pub data Part (A : Type 0) : Type 0 where

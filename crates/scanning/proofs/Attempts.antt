@@ -83,17 +83,20 @@ parts-of k s {n} {at} e {p} {end} h = by-blocks (blocksAt k n s at) refl (rw e a
     by-blocks (fault y z) b w = let u : _≡_ {A = ℕ} 0 1 = cc in absurd (omega arith)
 
 -- what a good attempt is: the scan of the program, in its answer and in its arrays
-pub data Scans (x : Inputs) (ps : List Place) (s : List ℕ) : Type 0 where
-  scans : (p : Program) (end : ℕ) → programAt everyBlock s ≡ got p end → length (p .blocks) ≤ 200
-      → attempted (x .elapsed) (loaded x ps) s
+pub record Scans (x : Inputs) (ps : List Place) (s : List ℕ) : Type 0 where
+  pub program : Program
+  pub end : ℕ
+  pub read : programAt everyBlock s ≡ got program end
+  pub few : length (program .blocks) ≤ 200
+  pub answer :
+      attempted (x .elapsed) (loaded x ps) s
       ≡ record {
         good = true;
-        blocks = length (p .blocks);
-        steps = stepsTo x (p .blocks) (length (p .blocks)) ps;
-        alarms = alarmWord x (scanTo x (p .blocks) (length (p .blocks)) ps) (p .alarms);
+        blocks = length (program .blocks);
+        steps = stepsTo x (program .blocks) (length (program .blocks)) ps;
+        alarms = alarmWord x (scanTo x (program .blocks) (length (program .blocks)) ps) (program .alarms);
       }
-      → afterAttempt (x .elapsed) (loaded x ps) s ≡ loaded x (scanTo x (p .blocks) (length (p .blocks)) ps)
-      → Scans x ps s
+  pub after : afterAttempt (x .elapsed) (loaded x ps) s ≡ loaded x (scanTo x (program .blocks) (length (program .blocks)) ps)
 
 module _ (x : Inputs) (eight : length (x .words) ≡ 8) (ps : List Place) (s : List ℕ) where
   by-parts : {n at : ℕ} → typedAt everyBlock blockCount 0 s 0 ≡ got n at → (p : Program) (end : ℕ) → programAt (firstBlocks n) s ≡ got p end
@@ -107,7 +110,14 @@ module _ (x : Inputs) (eight : length (x .words) ≡ 8) (ps : List Place) (s : L
       let t : turnsTo (x .elapsed) (p .blocks) (length (p .blocks)) (loaded x ps) ≡ loaded x qs = rw w at (turns-loaded x eight k n s at ps (length cs) (omega arith)) in
       let c : turnSteps (x .elapsed) (p .blocks) (length (p .blocks)) (loaded x ps) ≡ stepsTo x (p .blocks) (length (p .blocks)) ps = rw w at (steps-loaded x eight k n s at ps (length cs) (omega arith)) in
       let few : length (p .blocks) ≤ 200 = omega (arith, blocks-long k n s at b, typed-below everyBlock blockCount 0 s 0 e) in
-      scans p end (trial-read s e h) few (rw (e, h, a, c, t, alarms-loaded x qs k s m q)) (rw (e, w, t))
+      record {
+        program = p;
+        end = end;
+        read = trial-read s e h;
+        few = few;
+        answer = rw (e, h, a, c, t, alarms-loaded x qs k s m q);
+        after = rw (e, w, t);
+      }
 
   pub attempt-answers : attempted (x .elapsed) (loaded x ps) s .good ≡ true → Scans x ps s
   unfolding attempted

@@ -24,5 +24,5 @@ module _ (x : Inputs) (bs : List Block) (ps : List Place) where
   pub stored : {A : Type 0} (f : Place → A) (n : ℕ) → take n (map f (scanTo x bs n ps)) ++ drop n (map f ps) ≡ map f (scanTo x bs n ps)
   stored f n =
       let e : drop n (map f ps) ≡ drop n (map f (scanTo x bs n ps)) =
-        sym (map-drop f n ps) ∙ ap (map f) (sym (beyond n n (omega arith))) ∙ map-drop f n (scanTo x bs n ps) in
+      sym (map-drop f n ps) ∙ ap (map f) (sym (beyond n n (omega arith))) ∙ map-drop f n (scanTo x bs n ps) in
       rw e (take-append-drop n (map f (scanTo x bs n ps)))

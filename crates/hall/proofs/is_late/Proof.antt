@@ -4,20 +4,16 @@ use native.Mathlib.Omega.{arith}
 use borrow.Author.Needs.{needs}
 use borrow.Author.Tests.{lt-ltb, le-ltb}
 use Rattle.hall.specs.Answers.{lateBy}
-use Rattle.hall.specs.Calls.{late}
 use Rattle.hall.proofs.is_late.Statement.{statement}
 use Rattle.hall.proofs.is_late.Tie as tie
 
 returns : tie.Need-returns
-unfolding lateBy late
-returns c = let a = c .before .before .args in let h : 18446744073709551615 < a .s .time + a .elapsed = omega arith in rw (lt-ltb _ _ h)
+unfolding lateBy
+returns c = let a = c .before .args in let h : 18446744073709551615 < a .time + a .elapsed = omega arith in rw (lt-ltb _ _ h)
 
 returns-2 : tie.Need-returns-2
-unfolding lateBy late
-returns-2 c =
-    let a = c .before .before .before .before .args in
-    let h : a .s .time + a .elapsed ≤ 18446744073709551615 = omega arith in
-    rw (le-ltb _ _ h)
+unfolding lateBy
+returns-2 c = let a = c .before .args in let h : a .time + a .elapsed ≤ 18446744073709551615 = omega arith in rw (le-ltb _ _ h)
 
 pub is-late-spec : {M : Type 1} → statement M
 is-late-spec = tie.close (tie.spec (λ c. search needs) returns returns-2)

@@ -1,38 +1,103 @@
--- `hall::scan` meets its contract: the refusals in their order, and then the answer.
-use Rattle.hall.proofs.Programs.{not-late, by-acceptance, by-state, by-time, whole-program, by-answer}
-use Rattle.hall.specs.Answers.{inputs, lateBy}
-use Rattle.hall.specs.Calls.{late}
-use Rattle.program.specs.declared.Acceptance.{Acceptance}
-use borrow.Author.Tests.{not-true, not-false}
-use mathlib.Core.Path.{_∙_, sym, ap}
+-- `hall::scan` meets its contract: the state is put into arrays, a scan of them is the scan of the state, and they are the state after it.
+use Prim.Native.Nat.{_^_, _<_}
+use mathlib.Core.Path.{_≡_, refl, sym, ap, subst, _∙_}
 use borrow.Author.Needs.{needs}
+use Rattle.journal.proofs.Places.{length-mapped}
+use Rattle.scanning.specs.Scan.{Inputs}
+use Rattle.hall.specs.declared.ScanAnswer.{ScanAnswer}
+use Rattle.hall.specs.Calls.{scanOf}
+use Rattle.hall.specs.Images.{Image, image, isImage, stateIn, countsOf, imageOf, scanAnswer, scannedIn, afterScan}
+use Rattle.hall.specs.Answers.{inputs}
+use Rattle.hall.proofs.Images.{same-image}
+use Rattle.hall.proofs.Figures.{scan-bounded}
+use Rattle.hall.proofs.States.{Whole, scan-of-image, after-scan-is-image, after-scan-state}
 use Rattle.hall.proofs.scan.Statement.{statement}
 use Rattle.hall.proofs.scan.Tie as tie
 
-returns-3 : tie.Need-returns-3
-unfolding lateBy late
-returns-3 c = rw (c .refuse3 .ensures) (by-time _ _ _ (sym (ap (λ (a : Acceptance). a .refusal) (c .before .before .before .before .before .before .before .accept .ensures)) ∙ c .before .before .before .before .before .if1 .left) (sym (c .before .before .before .before .good2 .ensures) ∙ not-false _ (c .before .before .before .if2 .left)) (sym (c .before .before .is-late .ensures) ∙ c .before .if3 .taken))
+whole : (s : tie.Start) → Whole (s .args .state)
+whole s = record { places = search (needs, length-mapped); entries = search (needs, length-mapped) }
 
-answer-requires : tie.Need-answer-requires
-unfolding lateBy late
-answer-requires c κs = let a = c .before .before .before .before .before .before .before .before .args in (whole-program (a .program .now) (inputs (a .elapsed) (a .bits) (a .words)) (a .state) (sym (ap (λ (a : Acceptance). a .refusal) (c .before .before .before .before .before .before .accept .ensures)) ∙ c .before .before .before .before .if1 .left), not-late (inputs (a .elapsed) (a .bits) (a .words)) (a .state) (sym (c .before .is-late .ensures) ∙ c .if3 .left))
+alarms : (s : tie.Start) → s .args .state .alarms < 2 ^ 32
+alarms s = search needs
 
-returns-4 : tie.Need-returns-4
-unfolding lateBy late
-returns-4 c = rw (c .answer .ensures) (by-answer _ _ _ (sym (ap (λ (a : Acceptance). a .refusal) (c .before .before .before .before .before .before .before .accept .ensures)) ∙ c .before .before .before .before .before .if1 .left) (sym (c .before .before .before .before .good2 .ensures) ∙ not-false _ (c .before .before .before .if2 .left)) (sym (c .before .before .is-late .ensures) ∙ c .before .if3 .left))
+abbrev scanned : tie.Start → Inputs
+scanned s = inputs (s .args .elapsed) (s .args .bits) (s .args .words)
+
+abbrev start : tie.After-scan-in → tie.Start
+start c = c .before .before .before .before .before .before .before .before .before .before .before .before .before .before .before .before .before .before .before .before .before .before .before .before .before .before
+
+-- the arrays before the scan, and after it
+abbrev given : tie.After-scan-in → Image
+given c =
+    let s = start c .args .state in
+    let e = c .before .before .before .before .before .before .before .before .before .before .before .before .before .before .before .before .before .before .before .before .put-entries .last in
+    let p = c .before .before .before .before .before .before .before .before .before .before .before .before .put-places .last in
+    image (countsOf (s .time) (s .alarms) (s .journal)) (e .1 .1 .0) (e .1 .0) (p .1 .1 .1 .0) (p .1 .1 .1 .1 .0) (p .1 .0) (p .1 .1 .0)
+
+abbrev left : tie.After-scan-in → Image
+left c =
+    let l = c .scan-in .last .1 in
+    image (l .0) (l .1 .0) (l .1 .1 .0) (l .1 .1 .1 .0) (l .1 .1 .1 .1 .0) (l .1 .1 .1 .1 .1 .0) (l .1 .1 .1 .1 .1 .1 .0)
+
+is-given : (c : tie.After-scan-in) → given c ≡ imageOf (start c .args .state)
+is-given c =
+    let p = c .before .before .before .before .before .before .before .before .before .before .before .before .put-places .ensures in
+    let q = c .before .before .before .before .before .before .before .before .before .before .before .before .before .before .before .before .before .before .before .before .put-entries .ensures in
+    same-image refl (q .1) (q .0) (p .1 .0) (p .1 .1) (p .0 .0) (p .0 .1)
+
+is-left : (c : tie.After-scan-in) → let s = start c in left c ≡ afterScan (s .args .program .now) (scanned s) (imageOf (s .args .state))
+is-left c = let s = start c in c .scan-in .ensures .1 ∙ ap (afterScan (s .args .program .now) (scanned s)) (is-given c)
+
+answer : (c : tie.After-scan-in) → let s = start c in c .scan-in .result ≡ scanAnswer (scanOf (s .args .program .now) (scanned s) (s .args .state))
+answer c =
+    let s = start c in
+    c .scan-in .ensures .0 ∙ ap (scannedIn (s .args .program .now) (scanned s)) (is-given c)
+    ∙ scan-of-image (s .args .program .now) (scanned s) (s .args .state) (whole s) (alarms s)
+
+state-in-requires : tie.Need-state-in-requires
+state-in-requires c κs =
+    let g = c .before .before .before .before .before .before .before .before .before .before .before .before .before .before in
+    let s = start g in
+    let f : g .scan-in .result .alarms < 2 ^ 32 = search needs in
+    ap isImage (is-left g)
+    ∙ after-scan-is-image (s .args .program .now) (scanned s) (s .args .state) (whole s) (alarms s)
+    (subst (λ (r : ScanAnswer). r .alarms < 2 ^ 32) (answer g) f)
+
+returns : tie.Need-returns
+returns c =
+    let g = c .before .before .before .before .before .before .before .before .before .before .before .before .before .before .before in
+    let s = start g in
+    let a = answer g in
+    let b = c .state-in .ensures ∙ ap stateIn (is-left g) ∙ after-scan-state (s .args .program .now) (scanned s) (s .args .state) (whole s) (alarms s) in
+    (rw (a, b), rw a (scan-bounded (s .args .program .now) (scanned s) (s .args .state)))
 
 pub scan-spec : {M : Type 1} → statement M
 scan-spec =
     tie.close
     (tie.spec
+    (λ c. search needs)
+    (λ c. search needs)
+    (λ c. search needs)
     (λ c κs. search needs)
+    (λ c. search needs)
+    (λ c. search needs)
+    (λ c. search needs)
+    (λ c. search needs)
     (λ c κs. search needs)
-    (λ c. rw (c .refuse .ensures) (by-acceptance _ _ _ _ (c .before .before .before .accept .ensures) (c .before .if1 .taken)))
+    (λ c. search needs)
+    (λ c. search needs)
+    (λ c. search needs)
+    (λ c. search needs)
+    (λ c. search needs)
+    (λ c. search needs)
+    (λ c. search needs)
     (λ c κs. search needs)
-    (λ c κs. search needs)
-    (λ c. rw (c .refuse2 .ensures) (by-state _ _ _ (sym (ap (λ (a : Acceptance). a .refusal) (c .before .before .before .before .before .accept .ensures)) ∙ c .before .before .before .if1 .left) (sym (c .before .before .good2 .ensures) ∙ not-true _ (c .before .if2 .taken))))
-    (λ c κs. search needs)
-    (λ c κs. search needs)
-    returns-3
-    answer-requires
-    returns-4)
+    (λ c. search needs)
+    (λ c. search needs)
+    (λ c. search needs)
+    (λ c. search needs)
+    (λ c. search needs)
+    (λ c. search needs)
+    (λ c. search needs)
+    state-in-requires
+    returns)

@@ -10,7 +10,7 @@ use Rattle.rules.specs.Rules.{bl, dl, fl, flTicks, holdWord, og, same, scaled, 
 use Rattle.running.specs.Running.{ruleOf, ruled}
 use Rattle.journal.specs.Journal.{empty, freshJournal, goodJournal, noStamp, numbered, risen, risesFrom, storedAll}
 use Rattle.hall.specs.State.{freshState, goodPlace, goodState}
-use Rattle.hall.specs.Scan.{alarmWord, scanTo, stepsTo}
+use Rattle.scanning.specs.Scan.{alarmWord, scanTo, stepsTo}
 use Rattle.hall.specs.Calls.{answered, late, scanOf}
 use Rattle.promises.specs.Examples.{seenIn, examples, AllShown}
 use Rattle.promises.proofs.worked_examples.Statement.{statement}
