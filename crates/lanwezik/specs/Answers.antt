@@ -1,0 +1,24 @@
+-- The answers of the calls as a C program reads them, and its inputs as document 01 has them: the same numbers in wider fields.
+use Prim.Native.Nat.{ℕ}
+use Rattle.wire.specs.Choice.{pick}
+use Rattle.program.specs.declared.Acceptance.{Acceptance as Accepted}
+use Rattle.scanning.specs.Scan.{Inputs as ScanInputs}
+use Rattle.hall.specs.declared.ScanAnswer.{ScanAnswer}
+use Rattle.hall.specs.declared.TakeAnswer.{TakeAnswer}
+use Rattle.lanwezik.specs.declared.Acceptance.{Acceptance}
+use Rattle.lanwezik.specs.declared.Inputs.{Inputs}
+use Rattle.lanwezik.specs.declared.Scanned.{Scanned}
+use Rattle.lanwezik.specs.declared.Given.{Given}
+
+abbrev pub acceptance : Accepted → Acceptance
+acceptance a = record { refusal = a .refusal; memory = a .memory; steps = a .steps; place = a .place }
+
+abbrev pub inputsOf : Inputs → ScanInputs
+inputsOf x = record { elapsed = x .elapsed; bits = x .bits; words = x .analogs }
+
+abbrev pub scanned : ScanAnswer → Scanned
+scanned a = record { refusal = a .refusal; alarms = a .alarms; steps = a .steps; rises = a .rises; place = a .place }
+
+-- 1 if an entry was found, else 0
+abbrev pub given : TakeAnswer → Given
+given a = record { refusal = a .refusal; found = pick (a .found) 1 0; number = a .entry .number; time = a .entry .stamp .time }
