@@ -7,35 +7,17 @@ use native.Mathlib.Omega.{arith}
 use lib.Dec.{eqb}
 use lib.ListN.{length, take}
 use lib.Seq.{take-suc, take-all}
-use borrow.Author.Tests.{eqb-true, eqb-false}
-use Rattle.wire.proofs.Choice.{pick-case}
-use Rattle.block.specs.Blocks.{Bit, Content, bit, word, number, tree, Block, nodesIn}
-use Rattle.block.specs.Kinds.{figureFor}
+use borrow.Author.Tests.{eqb-true}
+use Rattle.block.specs.Blocks.{Block}
 use Rattle.program.specs.Program.{Program, programAt, figure}
 use Rattle.program.specs.Acceptance.{everyBlock, accepted}
 use Rattle.program.proofs.Faults.{Good, good, accepted-good}
-use Rattle.expression.proofs.Laws.{steps-nodes}
 use Rattle.rules.specs.declared.Place.{Place}
-use Rattle.running.specs.Running.{stepsOf}
 use Rattle.scanning.specs.Scan.{Inputs, readBit, blockOf, scanTo, stepsTo}
+use Rattle.scanning.proofs.Figures.{steps-figure}
 use Rattle.hall.specs.declared.State.{State}
 use Rattle.hall.specs.State.{goodState}
 use Rattle.hall.specs.Calls.{answered, answerOf, late, scanOf}
-
--- a block takes at most its figure in steps
-figure-least : (n : ℕ) → (1 ≤ figureFor n) × (n ≤ figureFor n)
-unfolding figureFor
-figure-least n = pick-case (λ (k : ℕ). (1 ≤ k) × (n ≤ k)) (eqb n 0) (λ e. omega (arith, eqb-true n 0 e)) (λ e. go n (eqb-false n 0 e))
-  where
-    go : (n : ℕ) → (n ≡ 0 → ⊥) → (1 ≤ n) × (n ≤ n)
-    go n h = omega arith
-
-steps-figure : (f : Bit → Bool) (cs : List Content) → stepsOf f cs ≤ figureFor (nodesIn cs)
-steps-figure f [] = figure-least 0 .0
-steps-figure f (bit b ∷ cs) = figure-least (nodesIn (bit b ∷ cs)) .0
-steps-figure f (word w ∷ cs) = figure-least (nodesIn (word w ∷ cs)) .0
-steps-figure f (number n ∷ cs) = figure-least (nodesIn (number n ∷ cs)) .0
-steps-figure f (tree t ∷ cs) = omega (arith, steps-nodes f t, figure-least (nodesIn (tree t ∷ cs)) .1)
 
 -- the first n blocks together
 figure-append : (cs bs : List Block) → figure (cs ++ bs) ≡ figure cs + figure bs
@@ -52,7 +34,7 @@ steps-most x bs ps (suc n) h =
     ap figure (take-suc bs n _ (omega arith)) ∙ figure-append (take n bs) (blockOf bs n ∷ []) in
     omega arith
 
-steps-bounded : (x : Inputs) (p : Program) (s : State) → answered p x s .steps ≤ figure (p .blocks)
+pub steps-bounded : (x : Inputs) (p : Program) (s : State) → answered p x s .steps ≤ figure (p .blocks)
 unfolding answered
 steps-bounded x p s = rw (take-all (length (p .blocks)) (p .blocks) (omega arith)) at (steps-most x (p .blocks) (s .places) (length (p .blocks)) (omega arith))
 

@@ -23,7 +23,7 @@ use Rattle.hall.specs.declared.Handed.{Handed}
 use Rattle.hall.specs.State.{freshState, goodState}
 use Rattle.scanning.specs.Scan.{Inputs, readBit, scanTo, stepsTo, alarmWord}
 use Rattle.hall.specs.Calls.{answered, scanOf, takeOf}
-use Rattle.hall.proofs.Programs.{steps-bounded}
+use Rattle.hall.proofs.Figures.{steps-bounded}
 use Rattle.promises.specs.History.{Call, scan, take, refusalOf, stateOf, stateAfter, entriesOf, handedOut, answeredOf, Past, freshPast, risesAt, placesThen, bitsThen, risesThen, pastScan, pastTake, pastCall, pastAfter, programOf}
 use Rattle.promises.specs.Demand1.{RefusedScan, Scanning, refuses-program, refuses-state, refuses-time, refuses-missed, answers, Taking, refuses, hands}
 use Rattle.promises.specs.Demand2.{ByTheRules, EveryRun}
