@@ -1,5 +1,5 @@
 #!/usr/bin/env python3
-"""Writes the recordings of this folder: p1 and hall. README.md tells what they show.
+"""Writes the recordings of this folder, p1 and hall, and the same for a console: NAME.program and NAME.inputs. README.md tells what they show.
 
 A recording is numbers only (document 01, "Program bytes" and "The listing program"), so what stands here is the list of them with names.
 """
@@ -47,13 +47,17 @@ def node(reference):
 
 
 def scan(elapsed, bits, words=()):
-    words = list(words) + [0] * (8 - len(words))
-    return numbers([elapsed, bits & 65535, bits >> 16] + [pm(w) for w in words])
+    return elapsed, bits, list(words)
 
 
-def recording(blocks, alarms, scans):
-    program = numbers([len(blocks)] + [n for b in blocks for n in b] + [len(alarms)] + alarms)
-    return number(len(program)) + program + b"".join(scans)
+def scan_bytes(elapsed, bits, words):
+    """A scan as scanlist reads it."""
+    return numbers([elapsed, bits & 65535, bits >> 16] + [pm(w) for w in words + [0] * (8 - len(words))])
+
+
+def scan_line(elapsed, bits, words):
+    """A scan as a console reads it."""
+    return " ".join([f"{elapsed}", f"{bits:#x}"] + [f"{w}" for w in words]) + "\n"
 
 
 def write(name, data):
@@ -61,8 +65,15 @@ def write(name, data):
         f.write(data)
 
 
+def write_example(name, blocks, alarms, scans):
+    program = numbers([len(blocks)] + [n for b in blocks for n in b] + [len(alarms)] + alarms)
+    write(name, number(len(program)) + program + b"".join(scan_bytes(*s) for s in scans))
+    write(name + ".program", program)
+    write(name + ".inputs", "".join(scan_line(*s) for s in scans).encode())
+
+
 # P1: one counter of input bit 0, up to 2, and an alarm on it.
-write("p1", recording([[CN, bit(0), OFF, 2]], [out(0)], [scan(10, 1), scan(10, 0), scan(10, 1)]))
+write_example("p1", [[CN, bit(0), OFF, 2]], [out(0)], [scan(10, 1), scan(10, 0), scan(10, 1)])
 
 # The hall: two belts in a row, the second feeds the first.
 BARRIER, ACKNOWLEDGE, START, NEW_SHIFT = 0, 1, 2, 3  # input bits; 4 to 31 are the chutes that report full
@@ -95,4 +106,4 @@ SCANS = (
     + [scan(100, RUN | CHUTES, [200])]  # and again
     + [scan(100, RUN | BUTTON, [200])] * 2
 )
-write("hall", recording(HALL, ALARMS, SCANS))
+write_example("hall", HALL, ALARMS, SCANS)
