@@ -259,6 +259,3 @@ brief-light (fault n at) e l = let z : _≡_ {A = ℕ} 0 1 = cc in absurd (omega
 
 pub block-light : (k : Known) (s : List ℕ) (at : ℕ) {m f b next : ℕ} → briefOf (blockAt k s at) ≡ BriefGot m f b next → (m ≤ 337) × (f ≤ 315)
 block-light k s at e = brief-light (blockAt k s at) e (light-block k s at)
-
-pub read-light : (k : Known) (s : List ℕ) (at : ℕ) {b : Block} {next : ℕ} → blockAt k s at ≡ got b next → figureOf b ≤ 315
-read-light k s at e = subst Light e (light-block k s at) .1

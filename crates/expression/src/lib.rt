@@ -4,6 +4,7 @@ use block::Passed;
 ghost use mathlib.Core.Path.{_≡_};
 ghost use Prim.Native.Nat.{_<_, _≤_, _-_};
 ghost use Rattle.block.specs.Reading.{exprAt};
+ghost use Rattle.block.specs.Answers.{passed};
 ghost use Rattle.expression.specs.Expression.{gateOf, skipsOf, truthTable, skipTable, bitIn, valued, joined};
 
 // What an operator of two parts makes of x and y, as bit 2x + y of a number.
@@ -116,6 +117,20 @@ pub fn eval(
     }
 }
 
+// Passes over a part: a leaf at once.
+fn skip(s: &[u8], at: usize, depth: u8, left: u8, blocks: &[u8; 200]) -> Passed
+    ensures { λ r. ⌜ r ≡ passed left (exprAt (now (blocks .entry)) depth left (now (s .entry)) at) ⌝ }
+{
+    let h = block::head(s, at, depth, left, blocks);
+    if let Node::Leaf { r: _, next } = h {
+        return Passed::Good {
+            next,
+            left: left - 1,
+        };
+    }
+    block::pass(s, at, depth, left, blocks)
+}
+
 // The second part of an operator whose first part came to x in p steps.
 fn second(
     s: &[u8],
@@ -132,7 +147,7 @@ fn second(
     ensures { λ r. ⌜ r ≡ joined op x p (bitIn (now (bits .entry))) left (exprAt (now (blocks .entry)) depth left (now (s .entry)) at) ⌝ }
 {
     if skips(op, x) {
-        let b = block::pass(s, at, depth, left, blocks);
+        let b = skip(s, at, depth, left, blocks);
         return match b {
             Passed::Good { next, left: l } => Value::Done {
                 on: gate(op, x, false),

@@ -15,7 +15,7 @@ use Rattle.wire.specs.Number.{numberAt}
 use Rattle.wire.proofs.Choice.{pick-case}
 use Rattle.wire.proofs.Laws.{takes}
 use Rattle.running.specs.Running.{signed}
-use Rattle.wire.proofs.Copies.{grown}
+use Rattle.recording.proofs.Fronts.{grown}
 use Rattle.recording.specs.Recording.{Part, part, broken, andThen, shortOf, shortsAt, inputsIn, scanAt}
 use Rattle.recording.specs.Answers.{shortIn, brokenShorts, shortsFrom, shortsIn, brokenScan, recordedIn}
 use Rattle.recording.specs.declared.Short.the-variants.{Got as ShortGot, Broken as ShortBroken}

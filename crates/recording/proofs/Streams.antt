@@ -9,7 +9,7 @@ use lib.Seq.{take-suc, take-take, take-at, length-take-le, getD-drop, drop-drop,
 use native.Mathlib.Nat.{le-refl}
 use Rattle.recording.specs.declared.Span.{Span}
 use Rattle.recording.specs.Answers.{bytesOf}
-use Rattle.wire.proofs.Copies.{grown}
+use Rattle.recording.proofs.Fronts.{grown}
 
 -- one more byte moved down
 pub moved :

@@ -1,4 +1,3 @@
 pub mod Choice
-pub mod Copies
 pub mod Every
 pub mod Laws

@@ -20,7 +20,7 @@ use Rattle.expression.proofs.second.Reads as second
 use Rattle.expression.proofs.second.Kinds as second-kinds
 use Rattle.expression.proofs.+eval+part+second.Lts-second as second-lts
 use Rattle.block.proofs.head.Reads as head-reads
-use Rattle.block.proofs.pass.Reads as pass-reads
+use Rattle.expression.proofs.skip.Reads as skip-reads
 use Rattle.expression.proofs.gate.Reads as gate-reads
 use Rattle.expression.proofs.skips.Reads as skips-reads
 use Rattle.expression.proofs.+eval+part+second.{statement}
@@ -108,8 +108,8 @@ pub +eval+part+second-spec : {M : Type 1} → statement M
     λ t. second-lts.spec (
       skips-reads.Asked,
       skips-reads.Learnt,
-      pass-reads.Asked,
-      pass-reads.Learnt,
+      skip-reads.Asked,
+      skip-reads.Learnt,
       gate-reads.Asked,
       gate-reads.Learnt,
       part-below t,
@@ -123,8 +123,8 @@ pub +eval+part+second-spec : {M : Type 1} → statement M
     (λ c κs. search needs)
     (λ c. omega (arith, c .before .before .before .before .before .before .before .before .pre .1))
     (λ c. search needs)
-    (λ c. rw (c .gate .ensures) (join-skipped _ _ _ _ _ _ _ _ _ (sym (c .before .before .before .before .before .before .skips .ensures) ∙ c .before .before .before .before .before .if1 .taken) (sym (c .before .before .before .before .pass .ensures) ∙ c .before .before .b .given .1)))
-    (λ c. join-lost _ _ _ _ _ _ _ _ _ (sym (c .before .before .before .pass .ensures) ∙ c .before .b2 .given .1))
+    (λ c. rw (c .gate .ensures) (join-skipped _ _ _ _ _ _ _ _ _ (sym (c .before .before .before .before .before .before .skips .ensures) ∙ c .before .before .before .before .before .if1 .taken) (sym (c .before .before .before .before .skip .ensures) ∙ c .before .before .b .given .1)))
+    (λ c. join-lost _ _ _ _ _ _ _ _ _ (sym (c .before .before .before .skip .ensures) ∙ c .before .b2 .given .1))
     (λ c κs. (omega arith, tt))
     (λ c. search needs)
     (λ c κs. search needs)
