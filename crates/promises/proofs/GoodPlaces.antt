@@ -27,7 +27,7 @@ use Rattle.promises.proofs.Ticks.{most, Few, dl-few, os-few, fl-few, og
 bit-most : (b : Bool) → pick b 1 0 ≤ 1
 bit-most b = pick-case (λ n. n ≤ 1) b (λ _. omega arith) (λ _. omega arith)
 
-packed-below : (l : List Bool) → packed l < 2 ^ length l
+pub packed-below : (l : List Bool) → packed l < 2 ^ length l
 packed-below [] = omega arith
 packed-below (b ∷ l) = omega (arith, bit-most b, packed-below l, pow-suc 2 (length l))
 

@@ -8,3 +8,4 @@ pub mod Closed
 pub mod Rises
 pub mod Ledgers
 pub mod Histories
+pub mod Consoles

@@ -5,3 +5,4 @@ pub mod Demand3
 pub mod Closure
 pub mod Determinacy
 pub mod Examples
+pub mod Console

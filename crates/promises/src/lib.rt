@@ -4,6 +4,7 @@ ghost use Rattle.promises.specs.Demand1.{Demand1};
 ghost use Rattle.promises.specs.Demand2.{EveryRun};
 ghost use Rattle.promises.specs.Demand3.{EveryHistory};
 ghost use Rattle.promises.specs.Closure.{Closure};
+ghost use Rattle.promises.specs.Console.{Console};
 ghost use Rattle.promises.specs.Determinacy.{Determinacy};
 ghost use Rattle.promises.specs.Examples.{AllShown, examples};
 
@@ -25,6 +26,11 @@ pub fn demand_three()
 // A good state is handed back for a good state; from fresh, none is ever refused.
 pub fn closure()
     ensures { λ _. ⌜ Closure ⌝ }
+{}
+
+// The library's calls over a run: what a console keeps and is answered is what the calls by value give.
+pub fn console()
+    ensures { λ _. ⌜ Console ⌝ }
 {}
 
 // Each public function's contract gives one answer for each input.
