@@ -2,7 +2,7 @@
 use block::Node;
 use block::Passed;
 ghost use mathlib.Core.Path.{_≡_};
-ghost use Prim.Native.Nat.{_<_, _≤_, _-_};
+ghost use Prim.Native.Nat.{_≤_, _-_};
 ghost use Rattle.block.specs.Reading.{exprAt};
 ghost use Rattle.block.specs.Answers.{passed};
 ghost use Rattle.expression.specs.Expression.{gateOf, skipsOf, truthTable, skipTable, bitIn, valued, joined};

@@ -12,7 +12,7 @@ use Rattle.scanning.specs.Scan.{Inputs, scanTo}
 use Rattle.scanning.specs.Arrays.{arrays}
 use Rattle.scanning.specs.Loading.{loaded}
 use Rattle.scanning.proofs.Beyond.{stored}
-use Rattle.hall.specs.Images.{Image, isImage, stateIn, imageOf}
+use Rattle.hall.specs.Images.{Image, isImage, stateIn}
 use Rattle.hall.proofs.Images.{image-again}
 use Rattle.hall.proofs.Scans.{outputs-stored, words-stored, ticks-stored, pins-stored}
 

@@ -1,5 +1,4 @@
 -- The answers of the calls as a C program reads them, and its inputs as document 01 has them: the same numbers in wider fields.
-use Prim.Native.Nat.{ℕ}
 use Rattle.wire.specs.Choice.{pick}
 use Rattle.program.specs.declared.Acceptance.{Acceptance as Accepted}
 use Rattle.scanning.specs.Scan.{Inputs as ScanInputs}

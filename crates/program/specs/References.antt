@@ -1,7 +1,6 @@
 -- Document 01, "Numbers of refusal": 3, by the references of a program that was read.
 use mathlib.Core.Bool.{Bool, true, _&&_}
 use mathlib.Core.List.{List, []}
-use Prim.Native.Nat.{ℕ}
 use lib.ListN.{length, getD}
 use lib.Dec.{ltb}
 use Rattle.wire.specs.Choice.{every}

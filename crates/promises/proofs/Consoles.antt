@@ -1,7 +1,7 @@
 -- What a console keeps is the image of a state: by the calls, one after another. Assumes nothing.
 use Prim.Native.Nat.{ℕ, _^_, _<_, _≤_}
 use mathlib.Core.Path.{_≡_, refl, sym, ap, subst, _∙_}
-use mathlib.Core.Bool.{Bool, true, not}
+use mathlib.Core.Bool.{true, not}
 use mathlib.Core.List.{List, [], _∷_, map}
 use native.Mathlib.Omega.{arith}
 use lib.Dec.{eqb}
@@ -20,7 +20,7 @@ use Rattle.hall.specs.State.{freshState, goodState}
 use Rattle.hall.specs.Calls.{answered, answerOf, late, scanOf, takeOf}
 use Rattle.rules.specs.Rules.{freshPlace}
 use Rattle.journal.specs.Journal.{freshJournal, zeroEntry}
-use Rattle.hall.specs.Images.{Image, sizedImage, isImage, stateIn, imageOf, afterScan, afterTake, afterFresh}
+use Rattle.hall.specs.Images.{Image, isImage, stateIn, imageOf, afterScan, afterTake, afterFresh}
 use Rattle.hall.proofs.Images.{image-parts, image-again}
 use Rattle.hall.proofs.States.{Whole, take-of-image, after-take-is-image, after-take-state, scan-of-image, after-scan-is-image, after-scan-state}
 use Rattle.promises.specs.History.{Call, scan, take, stateOf, stateAfter}

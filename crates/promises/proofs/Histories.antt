@@ -1,21 +1,19 @@
 -- The controller and what the rules say of a history go in step: each answered call takes both on, a refused one neither. Assumes nothing.
 use mathlib.Core.Path.{_≡_, refl, sym, ap, subst, _∙_}
 use mathlib.Core.Bool.{Bool, true, false}
-use mathlib.Core.List.{List, [], _∷_, _++_, map, append-assoc, append-nil}
+use mathlib.Core.List.{List, [], _∷_, _++_, append-assoc, append-nil}
 use Prim.Native.Nat.{ℕ, _+_, _≤_, _<_}
 use native.Mathlib.Omega.{arith}
 use borrow.Author.Tests.{ne-eqb}
 use lib.Dec.{eqb}
 use lib.ListN.{length, length-append, length-map}
 use Rattle.wire.specs.Choice.{pick}
-use Rattle.block.specs.Blocks.{Bit}
 use Rattle.block.specs.Reading.{got}
 use Rattle.program.specs.Program.{Program, figure}
 use Rattle.program.specs.Acceptance.{everyBlock, accepted}
 use Rattle.program.proofs.Faults.{Good, good, accepted-good}
 use Rattle.rules.specs.Rules.{packed}
 use Rattle.journal.specs.declared.Entry.{Entry}
-use Rattle.journal.specs.declared.Journal.{Journal}
 use Rattle.journal.specs.Journal.{entryOf, freshJournal, risesIn, risen, taken}
 use Rattle.hall.specs.declared.State.{State}
 use Rattle.hall.specs.declared.Scanned.{Scanned}
@@ -27,7 +25,7 @@ use Rattle.hall.proofs.Figures.{steps-bounded}
 use Rattle.promises.specs.History.{Call, scan, take, refusalOf, stateOf, stateAfter, entriesOf, handedOut, answeredOf, Past, freshPast, risesAt, placesThen, bitsThen, risesThen, pastScan, pastTake, pastCall, pastAfter, programOf}
 use Rattle.promises.specs.Demand1.{RefusedScan, Scanning, refuses-program, refuses-state, refuses-time, refuses-missed, answers, Taking, refuses, hands}
 use Rattle.promises.specs.Demand2.{ByTheRules, EveryRun}
-use Rattle.promises.specs.Demand3.{held, Demand3, EveryHistory}
+use Rattle.promises.specs.Demand3.{Demand3, EveryHistory}
 use Rattle.promises.specs.Closure.{Closure}
 use Rattle.promises.proofs.ReadPrograms.{alarms-few}
 use Rattle.promises.proofs.Refusals.{scan-row, take-row}

@@ -5,7 +5,6 @@ use Prim.Native.Nat.{ℕ, suc, _+_, _-_}
 use lib.Dec.{ltb, eqb}
 use lib.ListN.{length, getD, replicate}
 use Rattle.wire.specs.Choice.{pick}
-use Rattle.block.specs.Blocks.{Bit}
 use Rattle.block.specs.Reading.{Read, got, fault}
 use Rattle.program.specs.Program.{Program, programAt}
 use Rattle.program.specs.Acceptance.{everyBlock}

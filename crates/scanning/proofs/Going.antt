@@ -5,9 +5,9 @@ use mathlib.Core.Bool.{Bool, false, _&&_}
 use mathlib.Core.List.{List, [], _∷_, _++_, map, map-append, append-assoc, append-nil}
 use native.Mathlib.Omega.{arith}
 use native.Mathlib.Numerals.{add-one}
-use native.Mathlib.Nat.{sub-zero, add-zero}
+use native.Mathlib.Nat.{sub-zero}
 use lib.Dec.{leb}
-use lib.ListN.{length, getD, set, replicate, List·getD-append, length-append, length-map}
+use lib.ListN.{length, set, replicate, List·getD-append, length-append, length-map}
 use Rattle.block.specs.Blocks.{Block}
 use Rattle.block.specs.Kinds.{markOf, memoryOf}
 use Rattle.block.specs.Reading.{Read, got, fault, andThen, Known, blockAt}
@@ -20,11 +20,11 @@ use Rattle.program.specs.Acceptance.{knownOf}
 use Rattle.program.specs.Trial.{askedBy, answers, acceptable}
 use Rattle.expression.specs.Expression.{bitIn}
 use Rattle.rules.specs.declared.Place.{Place}
-use Rattle.running.specs.Running.{ruled, stepsOf, wordIn}
+use Rattle.running.specs.Running.{wordIn}
 use Rattle.running.specs.Answers.{turnOf, askedAfter}
 use Rattle.running.specs.declared.Turned.{Turned}
 use Rattle.scanning.specs.Scan.{blockOf}
-use Rattle.scanning.specs.Arrays.{Arrays, arrays, placeAt, storeAt, turnsTo, turnSteps, whileRead, blocksWhile}
+use Rattle.scanning.specs.Arrays.{Arrays, arrays, placeAt, storeAt, turnsTo, turnSteps, blocksWhile}
 use Rattle.scanning.specs.Trials.{ranOf}
 use Rattle.scanning.proofs.Figures.{steps-figure}
 

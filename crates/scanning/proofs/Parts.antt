@@ -1,6 +1,6 @@
 -- An attempt by its parts, as the code makes it: the count, the turns of the blocks, and the alarms. Assumes nothing.
 use Prim.Native.Nat.{ℕ}
-use mathlib.Core.Path.{_≡_, refl, sym, ap, _∙_}
+use mathlib.Core.Path.{_≡_, refl, _∙_}
 use mathlib.Core.Bool.{Bool, true, false}
 use mathlib.Core.List.{List}
 use lib.ListN.{length}
@@ -8,7 +8,7 @@ use Rattle.wire.specs.Choice.{pick}
 use Rattle.block.specs.Blocks.{Bit, Block}
 use Rattle.block.specs.Kinds.{blockCount}
 use Rattle.block.specs.Reading.{Read, got, fault, andThen, typedAt}
-use Rattle.program.specs.Program.{Program, blocksAt, alarmsAt, programAt}
+use Rattle.program.specs.Program.{blocksAt, alarmsAt, programAt}
 use Rattle.program.specs.Acceptance.{everyBlock}
 use Rattle.program.specs.Trial.{firstBlocks, acceptable}
 use Rattle.program.proofs.Laws.{blocks-long}

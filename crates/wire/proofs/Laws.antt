@@ -7,7 +7,6 @@ use native.Mathlib.Nat.{pow-suc, one-le-pow, pow-zero}
 use lib.ListN.{length}
 use lib.Dec.{ltb}
 use borrow.Author.Tests.{ltb-true, ltb-false, lt-ltb, le-ltb}
-use Rattle.wire.specs.Choice.{pick}
 use Rattle.wire.specs.declared.Num.{Num}
 use Rattle.wire.specs.declared.Num.the-variants.{Got, Bad, Cut}
 use Rattle.wire.specs.Number.{byteAt, more, notZero, groupsAt, groupsOf}

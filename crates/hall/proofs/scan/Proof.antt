@@ -1,6 +1,6 @@
 -- `hall::scan` meets its contract: the state is put into arrays, a scan of them is the scan of the state, and they are the state after it.
 use Prim.Native.Nat.{_^_, _<_}
-use mathlib.Core.Path.{_≡_, refl, sym, ap, subst, _∙_}
+use mathlib.Core.Path.{_≡_, refl, ap, subst, _∙_}
 use borrow.Author.Needs.{needs}
 use Rattle.journal.proofs.Places.{length-mapped}
 use Rattle.scanning.specs.Scan.{Inputs}

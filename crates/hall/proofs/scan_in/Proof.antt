@@ -1,7 +1,7 @@
 -- `hall::scan_in` meets its contract: the refusals in their order, and then the scan, put back into the arrays.
 use Prim.Native.Nat.{ℕ, _+_, _≤_}
-use mathlib.Core.Path.{_≡_, refl, sym, ap, subst, _∙_}
-use mathlib.Core.Bool.{Bool, true, false, _&&_}
+use mathlib.Core.Path.{_≡_, sym, ap, subst, _∙_}
+use mathlib.Core.Bool.{true, false, _&&_}
 use mathlib.Core.List.{map}
 use native.Mathlib.Omega.{arith}
 use lib.Dec.{eqb}

@@ -5,7 +5,6 @@ use borrow.Author.Needs.{needs}
 use mir.Val.{boolByte}
 use Rattle.wire.specs.Choice.{pick}
 use Rattle.hall.specs.declared.TakeAnswer.{TakeAnswer}
-use Rattle.lanwezik.specs.declared.Given.{Given}
 use Rattle.lanwezik.specs.Answers.{given}
 use Rattle.lanwezik.proofs.lanwezik_take_in.Statement.{statement}
 use Rattle.lanwezik.proofs.lanwezik_take_in.Tie as tie
