@@ -1,20 +1,15 @@
 -- `lanwezik::lanwezik_take_in` meets its contract: the answer of `take_in` in wider fields.
-use mathlib.Core.Path.{_≡_, refl, ap, _∙_}
-use mathlib.Core.Bool.{Bool, true, false}
+use mathlib.Core.Path.{_≡_, ap, _∙_}
 use borrow.Author.Needs.{needs}
 use mir.Val.{boolByte}
-use Rattle.wire.specs.Choice.{pick}
+use Rattle.image.proofs.Copies.{as-byte}
 use Rattle.hall.specs.declared.TakeAnswer.{TakeAnswer}
 use Rattle.lanwezik.specs.Answers.{given}
 use Rattle.lanwezik.proofs.lanwezik_take_in.Statement.{statement}
 use Rattle.lanwezik.proofs.lanwezik_take_in.Tie as tie
 
-as-one : (b : Bool) → boolByte b ≡ pick b 1 0
-as-one true = refl
-as-one false = refl
-
 widened : (a : TakeAnswer) → record { refusal = a .refusal; found = boolByte (a .found); number = a .entry .number; time = a .entry .stamp .time } ≡ given a
-widened a = rw (as-one (a .found))
+widened a = rw (as-byte (a .found))
 
 returns : tie.Need-returns
 returns c =
