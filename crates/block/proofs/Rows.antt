@@ -12,21 +12,26 @@ use borrow.Author.Tests.{eqb-false, ne-eqb}
 use Rattle.wire.specs.declared.Num.{Num}
 use Rattle.wire.specs.declared.Num.the-variants.{Got as NumGot, Bad, Cut}
 use Rattle.wire.specs.Number.{numberAt}
-use Rattle.wire.proofs.Choice.{pick-case, when-case}
-use Rattle.block.specs.Blocks.{Block, Expr, Content, tree, nodes, nodesOf, nodesIn, codeOf}
-use Rattle.block.specs.Kinds.{expression, offTime, kindNumber, allowed, excepted, contentOf, settingOf, kindOf, typesOf, memoryOf, figureFor, figureOf, markFor}
-use Rattle.block.specs.Reading.{Read, got, fault, andThen, Known, judged, typedAt, exprAt, contentAt, fieldsAt, blockAt}
-use Rattle.block.specs.Answers.{blankRow, emptyRow, stored, numberBefore, fieldMore, rowFrom, rowOf, briefOf}
+use Rattle.terms.proofs.Choice.{pick-case, when-case}
+use Rattle.numbers.specs.Blocks.{Block, Expr, Content, tree, nodes, nodesOf, nodesIn, codeOf}
+use Rattle.kinds.specs.Kinds.{expression, kindOf, typesOf, memoryOf, figureFor, figureOf, markFor}
+use Rattle.numbers.specs.Types.{offTime, kindNumber, allowed, excepted, contentOf, settingOf}
+use Rattle.wire.specs.Reading.{Read, got, fault, andThen}
+use Rattle.numbers.specs.Reading.{Marks, judged, typedAt}
+use Rattle.nodes.specs.Reading.{exprAt}
+use Rattle.block.specs.Reading.{contentAt, fieldsAt, blockAt}
+use Rattle.block.specs.Answers.{blankRow, emptyRow, withField, numberBefore, fieldMore, rowFrom, rowOf, briefOf}
 use Rattle.block.specs.declared.End.the-variants.{Next, Fault as EndFault}
 use Rattle.block.specs.declared.Brief.the-variants.{Got as BriefGot, Fault as BriefFault}
 use Rattle.block.specs.declared.Row.{Row}
-use Rattle.block.proofs.References.{content-code, content-nodes, content-setting}
-use Rattle.block.proofs.Table.{both-left, both-right}
-use Rattle.block.proofs.KindTable.{types-few, memory-light}
-use Rattle.block.proofs.Expressions.{typed-below, few, Whole, whole}
+use Rattle.numbers.proofs.References.{content-code, content-nodes, content-setting}
+use Rattle.terms.proofs.Table.{both-left, both-right}
+use Rattle.kinds.proofs.KindTable.{types-few, memory-light}
+use Rattle.numbers.proofs.Typed.{typed-below}
+use Rattle.nodes.proofs.Expressions.{few, Whole, whole}
 
 -- a BL's row, by what was read of its expression
-module _ (k : Known) (s : List ℕ) (at : ℕ) where
+module _ (k : Marks) (s : List ℕ) (at : ℕ) where
   pub tree-full : {next left : ℕ} → Whole 63 (exprAt k 16 63 s at) next left
       → (left ≤ 63) × (record { fields = replicate 5 0; nodes = 63 - left; end = Next next } ≡ rowOf (fieldsAt k (typesOf 0) 0 s at))
   unfolding contentAt fieldsAt kindOf rowOf
@@ -44,7 +49,7 @@ pub before-place : (i : ℕ) (l : List ℕ) → (i ≡ 0 → ⊥) → getD l (i 
 before-place zero l ne = absurd (ne refl)
 before-place (suc i) l ne = let e : suc i - 1 ≡ i = omega arith in rw e
 
-module _ (k : Known) (i ty : ℕ) (s : List ℕ) (row : Row) where
+module _ (k : Marks) (i ty : ℕ) (s : List ℕ) (row : Row) where
   pub more-refused : {n p : ℕ} → row .end ≡ EndFault n p → row ≡ fieldMore k i ty s row
   unfolding fieldMore
   more-refused e = rw e
@@ -63,12 +68,12 @@ allowed-free : (ty a b v : ℕ) → (ty ≡ offTime → ⊥) → allowed ty a v 
 unfolding allowed excepted
 allowed-free ty a b v ne = rw (ne-eqb ty offTime ne)
 
-judged-free : (k : Known) (ty a b at : ℕ) (m : Num) → (ty ≡ offTime → ⊥) → judged k ty a at m ≡ judged k ty b at m
+judged-free : (k : Marks) (ty a b at : ℕ) (m : Num) → (ty ≡ offTime → ⊥) → judged k ty a at m ≡ judged k ty b at m
 judged-free k ty a b at Bad ne = refl
 judged-free k ty a b at Cut ne = refl
 judged-free k ty a b at (NumGot v next) ne = rw (allowed-free ty a b v ne)
 
-typed-free : (k : Known) (ty a b : ℕ) (s : List ℕ) (at : ℕ) → (ty ≡ offTime → ⊥) → typedAt k ty a s at ≡ typedAt k ty b s at
+typed-free : (k : Marks) (ty a b : ℕ) (s : List ℕ) (at : ℕ) → (ty ≡ offTime → ⊥) → typedAt k ty a s at ≡ typedAt k ty b s at
 unfolding typedAt
 typed-free k ty a b s at ne = judged-free k ty a b at (numberAt s at) ne
 
@@ -84,7 +89,7 @@ abbrev fitting : ℕ → Bool → List ℕ → Bool
 fitting i b [] = true
 fitting i b (ty ∷ ts) = ltb i 5 && (ltb ty 13 && ((not (eqb ty offTime) || b) && fitting (suc i) (ltb 1 ty) ts))
 
-module _ (k : Known) (s : List ℕ) where
+module _ (k : Marks) (s : List ℕ) where
   -- a row read on by these types, from place i on
   abbrev pub readAll : List ℕ → ℕ → Row → Row
   readAll [] i row = row
@@ -129,7 +134,7 @@ module _ (k : Known) (s : List ℕ) where
       on-number :
           (r : Read ℕ) →
           ((v next : ℕ) → readAll ts (suc i) (record { fields = set l i v; nodes = 0; end = Next next }) ≡ rowFrom (suc i) (set l i v) 0 (fieldsAt k ts (settingOf (contentOf ty v)) s next)) →
-          readAll ts (suc i) (stored i (record { fields = l; nodes = 0; end = Next at }) r)
+          readAll ts (suc i) (withField i (record { fields = l; nodes = 0; end = Next at }) r)
           ≡ rowFrom i l 0 (andThen (andThen r (λ v next. got (contentOf ty v) next)) (λ c next. andThen (fieldsAt k ts (settingOf c) s next) (λ cs end. got (c ∷ cs) end)))
       on-number (got v next) g =
           g v next ∙ sym (row-cons i l 0 (contentOf ty v) (fieldsAt k ts (settingOf (contentOf ty v)) s next) ∙ rw (content-code ty v, content-nodes ty v))
@@ -152,7 +157,7 @@ few-number : (ty : ℕ) (r : Read ℕ) → Few (andThen r (λ v n. got (contentO
 few-number ty (got v n) = omega (arith, content-nodes ty v)
 few-number ty (fault n at) = tt
 
-content-few : (k : Known) (ty before : ℕ) (s : List ℕ) (at : ℕ) → Few (contentAt k ty before s at)
+content-few : (k : Marks) (ty before : ℕ) (s : List ℕ) (at : ℕ) → Few (contentAt k ty before s at)
 unfolding contentAt
 content-few k ty before s at =
     when-case Few (eqb ty expression) _ _
@@ -174,7 +179,7 @@ few-then :
 few-then b (got c n) f h g = g c n h
 few-then b (fault n at) f h g = tt
 
-row-few : (k : Known) (ts : List ℕ) (before : ℕ) (s : List ℕ) (at : ℕ) → RowFew (length ts * 63) (fieldsAt k ts before s at)
+row-few : (k : Marks) (ts : List ℕ) (before : ℕ) (s : List ℕ) (at : ℕ) → RowFew (length ts * 63) (fieldsAt k ts before s at)
 unfolding fieldsAt
 row-few k [] before s at = omega arith
 row-few k (ty ∷ ts) before s at =
@@ -184,7 +189,7 @@ row-few k (ty ∷ ts) before s at =
     (λ c n h. few-cons (length ts * 63) c (fieldsAt k ts (settingOf c) s n) h (row-few k ts (settingOf c) s n)))
 
 pub fields-few :
-    (k : Known) (ts : List ℕ) (before : ℕ) (s : List ℕ) (at : ℕ) {cs : List Content} {next : ℕ} →
+    (k : Marks) (ts : List ℕ) (before : ℕ) (s : List ℕ) (at : ℕ) {cs : List Content} {next : ℕ} →
     fieldsAt k ts before s at ≡ got cs next → nodesIn cs ≤ length ts * 63
 fields-few k ts before s at e = subst (RowFew (length ts * 63)) e (row-few k ts before s at)
 
@@ -202,7 +207,7 @@ unfolding rowOf
 stop-row (got cs n) h = let z : _≡_ {A = ℕ} 0 1 = cc in absurd (omega arith)
 stop-row (fault n at) h = cc
 
-module _ (k : Known) (ts : List ℕ) (before : ℕ) (s : List ℕ) (at : ℕ) (row : Row) (e : row ≡ rowOf (fieldsAt k ts before s at)) where
+module _ (k : Marks) (ts : List ℕ) (before : ℕ) (s : List ℕ) (at : ℕ) (row : Row) (e : row ≡ rowOf (fieldsAt k ts before s at)) where
   pub row-full : {next : ℕ} → row .end ≡ Next next → Full (fieldsAt k ts before s at) (row .nodes) next
   row-full {next} h = rw e (full-row (fieldsAt k ts before s at) (rw e at h))
 
@@ -210,7 +215,7 @@ module _ (k : Known) (ts : List ℕ) (before : ℕ) (s : List ℕ) (at : ℕ) (r
   row-stopped h = stop-row (fieldsAt k ts before s at) (rw e at h)
 
 -- a block, by its kind and its row
-module _ (k : Known) (s : List ℕ) (at : ℕ) {v next : ℕ} (e : typedAt k kindNumber 0 s at ≡ got v next) where
+module _ (k : Marks) (s : List ℕ) (at : ℕ) {v next : ℕ} (e : typedAt k kindNumber 0 s at ≡ got v next) where
   pub block-full : {n end : ℕ} → Full (fieldsAt k (typesOf v) 0 s next) n end
       → BriefGot (kindOf v .memory + n) (figureFor n) (markFor v) end ≡ briefOf (blockAt k s at)
   unfolding blockAt
@@ -241,12 +246,12 @@ light-row v (got cs end) l f =
 light-row v (fault n at) l f = tt
 
 light-kind :
-    (k : Known) (s : List ℕ) (r : Read ℕ) → ((v n : ℕ) → r ≡ got v n → v < 13) →
+    (k : Marks) (s : List ℕ) (r : Read ℕ) → ((v n : ℕ) → r ≡ got v n → v < 13) →
     Light (andThen r (λ v next. andThen (fieldsAt k (typesOf v) 0 s next) (λ cs end. got (record { kind = v; fields = cs }) end)))
 light-kind k s (got v n) h = light-row v (fieldsAt k (typesOf v) 0 s n) (h v n refl) (row-few k (typesOf v) 0 s n)
 light-kind k s (fault n at) h = tt
 
-light-block : (k : Known) (s : List ℕ) (at : ℕ) → Light (blockAt k s at)
+light-block : (k : Marks) (s : List ℕ) (at : ℕ) → Light (blockAt k s at)
 unfolding blockAt
 light-block k s at = light-kind k s (typedAt k kindNumber 0 s at) (λ v n e. typed-below k kindNumber 0 s at e)
 
@@ -257,5 +262,5 @@ brief-light (got b n) {m} {f} e l =
     (omega arith, omega arith)
 brief-light (fault n at) e l = let z : _≡_ {A = ℕ} 0 1 = cc in absurd (omega arith)
 
-pub block-light : (k : Known) (s : List ℕ) (at : ℕ) {m f b next : ℕ} → briefOf (blockAt k s at) ≡ BriefGot m f b next → (m ≤ 337) × (f ≤ 315)
+pub block-light : (k : Marks) (s : List ℕ) (at : ℕ) {m f b next : ℕ} → briefOf (blockAt k s at) ≡ BriefGot m f b next → (m ≤ 337) × (f ≤ 315)
 block-light k s at e = brief-light (blockAt k s at) e (light-block k s at)

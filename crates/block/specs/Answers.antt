@@ -1,29 +1,17 @@
 -- What the functions of this crate answer, in terms of what is read.
 use mathlib.Core.List.{List, map}
-use Prim.Native.Nat.{ℕ, zero, suc, _+_, _-_}
+use Prim.Native.Nat.{ℕ, zero, suc, _+_}
 use lib.ListN.{replicate, getD, set}
 use lib.Seq.{sets}
-use Rattle.block.specs.Blocks.{Expr, Content, Block, nodes, nodesIn, codeOf}
-use Rattle.block.specs.Kinds.{memoryOf, figureOf, markOf}
-use Rattle.block.specs.Reading.{Read, got, fault, Known, typedAt}
-use Rattle.block.specs.declared.Number.{Number}
-use Rattle.block.specs.declared.Number.the-variants.{Got as NumberGot, Fault as NumberFault}
-use Rattle.block.specs.declared.Passed.{Passed}
-use Rattle.block.specs.declared.Passed.the-variants.{Good, Fault as PassedFault}
+use Rattle.numbers.specs.Blocks.{Content, Block, nodes, nodesIn, codeOf}
+use Rattle.kinds.specs.Kinds.{memoryOf, figureOf, markOf}
+use Rattle.wire.specs.Reading.{Read, got, fault}
+use Rattle.numbers.specs.Reading.{Marks, typedAt}
 use Rattle.block.specs.declared.End.{End}
 use Rattle.block.specs.declared.End.the-variants.{Next, Fault as EndFault}
 use Rattle.block.specs.declared.Row.{Row}
 use Rattle.block.specs.declared.Brief.{Brief}
 use Rattle.block.specs.declared.Brief.the-variants.{Got as BriefGot, Fault as BriefFault}
-
-abbrev pub numberOf : Read ℕ → Number
-numberOf (got v next) = NumberGot v next
-numberOf (fault n at) = NumberFault n at
-
--- an expression passed over, of `left` nodes left
-abbrev pub passed : ℕ → Read Expr → Passed
-passed left (got t next) = Good next (left - nodes t)
-passed left (fault n at) = PassedFault n at
 
 abbrev pub blankRow : ℕ → ℕ → Row
 blankRow n at = record { fields = replicate 5 0; nodes = 0; end = EndFault n at }
@@ -33,9 +21,9 @@ abbrev pub emptyRow : ℕ → Row
 emptyRow at = record { fields = replicate 5 0; nodes = 0; end = Next at }
 
 -- a row with one more field, the number at place i that was read for it
-abbrev pub stored : ℕ → Row → Read ℕ → Row
-stored i row (got v next) = record { fields = set (row .fields) i v; nodes = row .nodes; end = Next next }
-stored i row (fault n at) = blankRow n at
+abbrev pub withField : ℕ → Row → Read ℕ → Row
+withField i row (got v next) = record { fields = set (row .fields) i v; nodes = row .nodes; end = Next next }
+withField i row (fault n at) = blankRow n at
 
 -- a row that is read on from its end; one that is refused stays so
 abbrev pub readOn : Row → (ℕ → Row) → End → Row
@@ -48,8 +36,8 @@ numberBefore zero l = 0
 numberBefore (suc i) l = getD l i 0
 
 -- a row with one more field at place i, a number of type ty after the number before it
-unfoldable pub fieldMore : Known → ℕ → ℕ → List ℕ → Row → Row
-fieldMore k i ty s row = readOn row (λ at. stored i row (typedAt k ty (numberBefore i (row .fields)) s at)) (row .end)
+unfoldable pub fieldMore : Marks → ℕ → ℕ → List ℕ → Row → Row
+fieldMore k i ty s row = readOn row (λ at. withField i row (typedAt k ty (numberBefore i (row .fields)) s at)) (row .end)
 
 -- a row whose first i fields, of m nodes, are stored in l already, and the others' numbers from place i on
 abbrev pub rowFrom : ℕ → List ℕ → ℕ → Read (List Content) → Row

@@ -2,14 +2,15 @@
 use mathlib.Core.List.{List, [], _∷_}
 use Prim.Native.Nat.{ℕ}
 use lib.ListN.{set}
-use Rattle.block.specs.Blocks.{analog, wordOf, constant, Content, bit, word, number, tree}
+use Rattle.numbers.specs.Blocks.{Word, analog, wordOf, constant, Content, wordRefs}
 
--- a list with 1 at the number of each block that was asked for its word, after these fields too
+-- a list with 1 at the number of each block that was asked for its word, after these references too
+abbrev pub asks : List Word → List ℕ → List ℕ
+asks [] l = l
+asks (analog i ∷ ws) l = asks ws l
+asks (wordOf i ∷ ws) l = asks ws (set l i 1)
+asks (constant n ∷ ws) l = asks ws l
+
+-- after those of some fields
 abbrev pub asking : List Content → List ℕ → List ℕ
-asking [] l = l
-asking (bit b ∷ cs) l = asking cs l
-asking (word (analog i) ∷ cs) l = asking cs l
-asking (word (wordOf i) ∷ cs) l = asking cs (set l i 1)
-asking (word (constant n) ∷ cs) l = asking cs l
-asking (number n ∷ cs) l = asking cs l
-asking (tree t ∷ cs) l = asking cs l
+asking cs l = asks (wordRefs cs) l

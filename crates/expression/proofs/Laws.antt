@@ -6,14 +6,16 @@ use mathlib.Core.List.{List}
 use native.Mathlib.Omega.{arith}
 use lib.Dec.{eqb}
 use mir.Val.{boolByte}
-use Rattle.wire.specs.Choice.{pick}
-use Rattle.wire.proofs.Choice.{pick-case}
-use Rattle.block.specs.Blocks.{Bit, Expr, ref, inv, gate, nodes}
-use Rattle.block.specs.Reading.{Read, got, fault, andThen, Known, exprAt}
-use Rattle.block.specs.Answers.{passed}
-use Rattle.block.specs.declared.Passed.the-variants.{Good, Fault}
-use Rattle.block.proofs.Expressions.{few}
-use Rattle.expression.specs.Expression.{gateOf, skipsOf, digit, truthTable, skipTable, value, steps, valued, joined}
+use Rattle.terms.specs.Choice.{pick}
+use Rattle.terms.proofs.Choice.{pick-case}
+use Rattle.numbers.specs.Blocks.{Bit, Expr, ref, inv, gate, nodes}
+use Rattle.wire.specs.Reading.{Read, got, fault, andThen}
+use Rattle.numbers.specs.Reading.{Marks}
+use Rattle.nodes.specs.Reading.{exprAt, passed}
+use Rattle.nodes.specs.declared.Passed.the-variants.{Good, Fault}
+use Rattle.nodes.proofs.Expressions.{few}
+use Rattle.expression.specs.Expression.{gateOf, skipsOf, truthTable, skipTable, value, steps, valued, joined}
+use Rattle.terms.specs.Bits.{digit}
 use Rattle.expression.specs.declared.Value.the-variants.{Done, Broken}
 
 pub steps-nodes : (f : Bit → Bool) (t : Expr) → steps f t ≤ nodes t
@@ -115,7 +117,7 @@ module _ (f : Bit → Bool) where
       rw (join-gate l op t (part (l - 1 - nodes t) n′), ex, eq, en, em)
   value-two l op (fault n at) part h = let z : _≡_ {A = ℕ} 0 1 = cc in absurd (omega arith)
 
-  module _ (k : Known) (d l : ℕ) (s : List ℕ) (at : ℕ) (op : ℕ) (x : Bool) (p : ℕ) where
+  module _ (k : Marks) (d l : ℕ) (s : List ℕ) (at : ℕ) (op : ℕ) (x : Bool) (p : ℕ) where
     pub join-skipped : {n m : ℕ} → skipsOf op x ≡ true → passed l (exprAt k d l s at) ≡ Good n m
         → Done (gateOf op x false) (p + 1) n m ≡ joined op x p f l (exprAt k d l s at)
     join-skipped {n} {m} e h = go (exprAt k d l s at) h
@@ -159,5 +161,5 @@ module _ (f : Bit → Bool) where
   steps-of l (got t n) {q = q} h e = let eq : steps f t ≡ q = cc in omega (arith, steps-nodes f t, h t n refl)
   steps-of l (fault n at) h e = let z : _≡_ {A = ℕ} 0 1 = cc in absurd (omega arith)
 
-  pub steps-few : (k : Known) (d l : ℕ) (s : List ℕ) (at : ℕ) {x : Bool} {q n m : ℕ} → valued f l (exprAt k d l s at) ≡ Done x q n m → q ≤ l
+  pub steps-few : (k : Marks) (d l : ℕ) (s : List ℕ) (at : ℕ) {x : Bool} {q n m : ℕ} → valued f l (exprAt k d l s at) ≡ Done x q n m → q ≤ l
   steps-few k d l s at e = steps-of l (exprAt k d l s at) (λ t n. few k d l s at) e

@@ -4,9 +4,10 @@ use mathlib.Core.List.{List}
 use Prim.Native.Nat.{ℕ, _+_, _-_, _*_}
 use lib.ListN.{getD}
 use lib.Dec.{eqb}
-use Rattle.wire.specs.Choice.{pick}
-use Rattle.block.specs.Blocks.{Bit, Expr, ref, inv, gate, nodes, bitCode}
-use Rattle.block.specs.Reading.{Read, got, fault}
+use Rattle.terms.specs.Choice.{pick}
+use Rattle.terms.specs.Bits.{digit}
+use Rattle.numbers.specs.Blocks.{Bit, Expr, ref, inv, gate, nodes, bitCode}
+use Rattle.wire.specs.Reading.{Read, got, fault}
 use Rattle.expression.specs.declared.Value.{Value}
 use Rattle.expression.specs.declared.Value.the-variants.{Done, Broken}
 
@@ -29,9 +30,6 @@ skipsOf op x =
     x)))
 
 -- The same two as numbers (ours): bit 2x + y is what an operator makes of x and y; bit x is whether the second part is skipped after x
-abbrev pub digit : Bool → ℕ
-digit b = pick b 1 0
-
 abbrev pub truthTable : (Bool → Bool → Bool) → ℕ
 truthTable f = digit (f false false) + 2 * digit (f false true) + 4 * digit (f true false) + 8 * digit (f true true)
 

@@ -1,10 +1,9 @@
 // The evaluator of expressions, over their bytes: value and steps.
-use block::Node;
-use block::Passed;
+use nodes::Node;
+use nodes::Passed;
 ghost use mathlib.Core.Path.{_≡_};
 ghost use Prim.Native.Nat.{_≤_, _-_};
-ghost use Rattle.block.specs.Reading.{exprAt};
-ghost use Rattle.block.specs.Answers.{passed};
+ghost use Rattle.nodes.specs.Reading.{exprAt, passed};
 ghost use Rattle.expression.specs.Expression.{gateOf, skipsOf, truthTable, skipTable, bitIn, valued, joined};
 
 // What an operator of two parts makes of x and y, as bit 2x + y of a number.
@@ -69,11 +68,11 @@ pub fn eval(
     depth: u8,
     left: u8,
     bits: &[bool; 234],
-    blocks: &[u8; 200],
+    marks: &[u8; 200],
 ) -> Value
-    ensures { λ r. ⌜ r ≡ valued (bitIn (now (bits .entry))) left (exprAt (now (blocks .entry)) depth left (now (s .entry)) at) ⌝ }
+    ensures { λ r. ⌜ r ≡ valued (bitIn (now (bits .entry))) left (exprAt (now (marks .entry)) depth left (now (s .entry)) at) ⌝ }
 {
-    let h = block::head(s, at, depth, left, blocks);
+    let h = nodes::head(s, at, depth, left, marks);
     match h {
         Node::Stop { no, at: place } => Value::Broken { no, at: place },
         Node::Leaf { r, next } => {
@@ -86,7 +85,7 @@ pub fn eval(
             }
         }
         Node::One { next } => {
-            let a = eval(s, next, depth - 1, left - 1, bits, blocks);
+            let a = eval(s, next, depth - 1, left - 1, bits, marks);
             match a {
                 Value::Done {
                     on: x,
@@ -103,14 +102,14 @@ pub fn eval(
             }
         }
         Node::Two { op, next } => {
-            let a = part(s, next, depth - 1, left - 1, bits, blocks);
+            let a = part(s, next, depth - 1, left - 1, bits, marks);
             match a {
                 Value::Done {
                     on: x,
                     steps: p,
                     next: n1,
                     left: l1,
-                } => second(s, n1, depth - 1, l1, bits, blocks, op, x, p),
+                } => second(s, n1, depth - 1, l1, bits, marks, op, x, p),
                 Value::Broken { no, at: place } => Value::Broken { no, at: place },
             }
         }
@@ -118,17 +117,17 @@ pub fn eval(
 }
 
 // Passes over a part: a leaf at once.
-fn skip(s: &[u8], at: usize, depth: u8, left: u8, blocks: &[u8; 200]) -> Passed
-    ensures { λ r. ⌜ r ≡ passed left (exprAt (now (blocks .entry)) depth left (now (s .entry)) at) ⌝ }
+fn skip(s: &[u8], at: usize, depth: u8, left: u8, marks: &[u8; 200]) -> Passed
+    ensures { λ r. ⌜ r ≡ passed left (exprAt (now (marks .entry)) depth left (now (s .entry)) at) ⌝ }
 {
-    let h = block::head(s, at, depth, left, blocks);
+    let h = nodes::head(s, at, depth, left, marks);
     if let Node::Leaf { r: _, next } = h {
         return Passed::Good {
             next,
             left: left - 1,
         };
     }
-    block::pass(s, at, depth, left, blocks)
+    nodes::pass(s, at, depth, left, marks)
 }
 
 // The second part of an operator whose first part came to x in p steps.
@@ -138,16 +137,16 @@ fn second(
     depth: u8,
     left: u8,
     bits: &[bool; 234],
-    blocks: &[u8; 200],
+    marks: &[u8; 200],
     op: u32,
     x: bool,
     p: u32,
 ) -> Value
     requires { ⌜ p ≤ 255 ⌝ }
-    ensures { λ r. ⌜ r ≡ joined op x p (bitIn (now (bits .entry))) left (exprAt (now (blocks .entry)) depth left (now (s .entry)) at) ⌝ }
+    ensures { λ r. ⌜ r ≡ joined op x p (bitIn (now (bits .entry))) left (exprAt (now (marks .entry)) depth left (now (s .entry)) at) ⌝ }
 {
     if skips(op, x) {
-        let b = skip(s, at, depth, left, blocks);
+        let b = skip(s, at, depth, left, marks);
         return match b {
             Passed::Good { next, left: l } => Value::Done {
                 on: gate(op, x, false),
@@ -158,7 +157,7 @@ fn second(
             Passed::Fault { no, at: place } => Value::Broken { no, at: place },
         };
     }
-    let b = part(s, at, depth, left, bits, blocks);
+    let b = part(s, at, depth, left, bits, marks);
     match b {
         Value::Done {
             on: y,
@@ -176,10 +175,10 @@ fn second(
 }
 
 // A part of an operator: a leaf is answered at once, anything else is evaluated.
-fn part(s: &[u8], at: usize, depth: u8, left: u8, bits: &[bool; 234], blocks: &[u8; 200]) -> Value
-    ensures { λ r. ⌜ r ≡ valued (bitIn (now (bits .entry))) left (exprAt (now (blocks .entry)) depth left (now (s .entry)) at) ⌝ }
+fn part(s: &[u8], at: usize, depth: u8, left: u8, bits: &[bool; 234], marks: &[u8; 200]) -> Value
+    ensures { λ r. ⌜ r ≡ valued (bitIn (now (bits .entry))) left (exprAt (now (marks .entry)) depth left (now (s .entry)) at) ⌝ }
 {
-    let h = block::head(s, at, depth, left, blocks);
+    let h = nodes::head(s, at, depth, left, marks);
     match h {
         Node::Leaf { r, next } => {
             let k = r as usize;
@@ -190,6 +189,6 @@ fn part(s: &[u8], at: usize, depth: u8, left: u8, bits: &[bool; 234], blocks: &[
                 left: left - 1,
             }
         }
-        _ => eval(s, at, depth, left, bits, blocks),
+        _ => eval(s, at, depth, left, bits, marks),
     }
 }

@@ -4,8 +4,8 @@ use Prim.Native.Nat.{ℕ}
 use mathlib.Core.Path.{_≡_, refl, _∙_}
 use mathlib.Core.Bool.{Bool, true, false, _&&_}
 use native.Mathlib.Omega.{arith}
-use Rattle.block.specs.Refusals.{astray}
-use Rattle.block.specs.Reading.{Read, got, fault, andThen}
+use Rattle.terms.specs.Refusals.{astray}
+use Rattle.wire.specs.Reading.{Read, got, fault, andThen}
 
 -- what was got is got again if all of its references are there, and else the reading stops at one that is astray
 pub data Again {A : Type 0} (there : Bool) (a : A) (next : ℕ) (r : Read A) : Type 0 where

@@ -1,5 +1,5 @@
 -- Whether all references of a program are there, by a reading that knows only how many blocks there are and by whether each block that was asked for
--- its word has one. The blocks that were asked are followed field by field. Assumes nothing.
+-- its word has one. The blocks that were asked are followed reference by reference. Assumes nothing.
 use Prim.Native.Nat.{ℕ, zero, suc, _-_, _<_, _≤_}
 use mathlib.Core.Path.{_≡_, refl, sym, ap, fun-ext, _∙_}
 use mathlib.Core.Bool.{Bool, true, false, not, _&&_, _||_, and-true, and-false, or-true, and-assoc, and-comm}
@@ -9,17 +9,17 @@ use lib.Dec.{eqb, ltb, leb·suc-suc}
 use lib.ListN.{length, getD, set, replicate, length-set, length-replicate, getD-replicate}
 use lib.Seq.{getD-set-same, getD-set-other}
 use borrow.Author.Tests.{eqb-true, eqb-false, ltb-true, lt-ltb, le-ltb}
-use Rattle.wire.specs.Choice.{pick, every}
-use Rattle.block.specs.Blocks.{Bit, off, on, input, output, Word, analog, wordOf, constant, Content, bit, word, number, tree, Block}
-use Rattle.block.specs.Asking.{asking}
-use Rattle.block.specs.Reading.{Known, bitKnown, wordKnown}
+use Rattle.terms.specs.Choice.{pick, every}
+use Rattle.numbers.specs.Blocks.{Bit, off, on, input, output, Word, analog, wordOf, constant, Content, Block, bitRefs, wordRefs, refsPass}
+use Rattle.block.specs.Asking.{asks, asking}
+use Rattle.numbers.specs.Reading.{Marks, bitMarked, wordMarked}
 use Rattle.program.specs.Program.{Program}
-use Rattle.program.specs.Acceptance.{knownOf}
-use Rattle.program.specs.References.{inExpr, inContent, inBlock, inProgram, bitThere, wordThere, allThere}
-use Rattle.program.specs.Trial.{firstBlocks, askedBy, answers}
-use Rattle.program.proofs.Second.{mark-at, known-words}
+use Rattle.program.specs.Acceptance.{marksOf}
+use Rattle.program.specs.References.{blockPasses, allPass, bitThere, wordThere, allThere}
+use Rattle.program.specs.Trial.{firstBlocks, askedBy, allAnswer}
+use Rattle.program.proofs.Marks.{mark-at, marked-words}
 
--- what the first n blocks are known as, where only their number is known
+-- the marks of the first n blocks, where only their number is known
 first-at : (n m i : ℕ) → _≡_ {A = ℕ} (getD (replicate n 2 ++ replicate m 0) i 0) (pick (ltb i n) 2 0)
 first-at zero m i = mark-at [] m i ∙ rw (le-ltb i 0 (omega arith))
 first-at (suc n) m zero = rw (lt-ltb 0 (suc n) (omega arith))
@@ -29,20 +29,20 @@ first-tells : (b : Bool) → (not (eqb (pick b 2 0) 0) ≡ b) × (eqb (pick b 2 
 first-tells true = (refl, refl)
 first-tells false = (refl, refl)
 
-first-word : (n i : ℕ) → wordKnown (firstBlocks n) (wordOf i) ≡ ltb i n
+first-word : (n i : ℕ) → wordMarked (firstBlocks n) (wordOf i) ≡ ltb i n
 unfolding firstBlocks
 first-word n i = rw (first-at n (200 - n) i) (first-tells (ltb i n) .1)
 
-first-bits : (bs : List Block) (b : Bit) → bitKnown (firstBlocks (length bs)) b ≡ bitThere bs b
+first-bits : (bs : List Block) (b : Bit) → bitMarked (firstBlocks (length bs)) b ≡ bitThere bs b
 unfolding firstBlocks
 first-bits bs off = refl
 first-bits bs on = refl
 first-bits bs (input i) = refl
 first-bits bs (output i) = rw (first-at (length bs) (200 - length bs) i) (first-tells (ltb i (length bs)) .0)
 
--- where one more block is asked, it answers too
-asked-above : (k : Known) (n i : ℕ) (l : List ℕ) → n ≤ i → answers n (set l i 1) k ≡ answers n l k
-unfolding answers
+-- where one more block is asked, it allAnswer too
+asked-above : (k : Marks) (n i : ℕ) (l : List ℕ) → n ≤ i → allAnswer n (set l i 1) k ≡ allAnswer n l k
+unfolding allAnswer
 asked-above k zero i l h = refl
 asked-above k (suc n) i l h = rw (asked-above k n i l (omega arith), getD-set-other l i n 1 0 (λ e. omega arith))
 
@@ -55,36 +55,33 @@ swap : (a b c : Bool) → (a && b && c) ≡ (a && c && b)
 swap false b c = refl
 swap true b c = and-comm b c
 
-asked-one : (k : Known) (n i : ℕ) (l : List ℕ) → i < n → n ≤ length l → answers n (set l i 1) k ≡ (answers n l k && eqb (getD k i 0) 2)
-unfolding answers
+asked-one : (k : Marks) (n i : ℕ) (l : List ℕ) → i < n → n ≤ length l → allAnswer n (set l i 1) k ≡ (allAnswer n l k && eqb (getD k i 0) 2)
+unfolding allAnswer
 asked-one k zero i l h few = absurd (omega arith)
 asked-one k (suc n) i l h few = go (eqb i n) refl (λ lt. asked-one k n i l lt (omega arith))
   where
-    go : (b : Bool) → eqb i n ≡ b → (i < n → answers n (set l i 1) k ≡ (answers n l k && eqb (getD k i 0) 2))
-        → answers (suc n) (set l i 1) k ≡ (answers (suc n) l k && eqb (getD k i 0) 2)
+    go : (b : Bool) → eqb i n ≡ b → (i < n → allAnswer n (set l i 1) k ≡ (allAnswer n l k && eqb (getD k i 0) 2))
+        → allAnswer (suc n) (set l i 1) k ≡ (allAnswer (suc n) l k && eqb (getD k i 0) 2)
     go true e lower =
         rw (eqb-true i n e, asked-above k n n l (omega arith), getD-set-same l n 1 0 (omega arith))
-        (once (answers n l k) (eqb (getD l n 0) 0) (eqb (getD k n 0) 2))
+        (once (allAnswer n l k) (eqb (getD l n 0) 0) (eqb (getD k n 0) 2))
     go false e lower =
         let ne = eqb-false i n e in
         rw (lower (omega arith), getD-set-other l i n 1 0 (λ z. ne (sym z)))
-        (swap (answers n l k) (eqb (getD k i 0) 2) (eqb (getD l n 0) 0 || eqb (getD k n 0) 2))
+        (swap (allAnswer n l k) (eqb (getD k i 0) 2) (eqb (getD l n 0) 0 || eqb (getD k n 0) 2))
 
 -- where none is asked, all answer
-unasked : (k : Known) (n : ℕ) → n ≤ 200 → answers n (replicate 200 0) k ≡ true
-unfolding answers
+unasked : (k : Marks) (n : ℕ) → n ≤ 200 → allAnswer n (replicate 200 0) k ≡ true
+unfolding allAnswer
 unasked k zero few = refl
 unasked k (suc n) few = rw (unasked k n (omega arith), getD-replicate {A = ℕ} 200 n 0 0 (omega arith))
 
--- no field makes the list longer or shorter
-asking-long : (cs : List Content) (l : List ℕ) → length (asking cs l) ≡ length l
-asking-long [] l = refl
-asking-long (bit r ∷ cs) l = asking-long cs l
-asking-long (word (analog i) ∷ cs) l = asking-long cs l
-asking-long (word (wordOf i) ∷ cs) l = asking-long cs (set l i 1) ∙ length-set l i 1
-asking-long (word (constant v) ∷ cs) l = asking-long cs l
-asking-long (number v ∷ cs) l = asking-long cs l
-asking-long (tree t ∷ cs) l = asking-long cs l
+-- no reference makes the list longer or shorter
+asks-long : (ws : List Word) (l : List ℕ) → length (asks ws l) ≡ length l
+asks-long [] l = refl
+asks-long (analog i ∷ ws) l = asks-long ws l
+asks-long (wordOf i ∷ ws) l = asks-long ws (set l i 1) ∙ length-set l i 1
+asks-long (constant v ∷ ws) l = asks-long ws l
 
 -- A walk over references: the blocks asked before it answer and its references are there in the end, exactly if the first reading passes them and
 -- the blocks asked after it answer.
@@ -103,50 +100,51 @@ walk-on {a} {f} {f2} {b} {r} {r2} {c} v w =
 walk-same : (a f : Bool) → Walk a f f a
 walk-same a f = record { told = and-comm a f }
 
--- no block from n on is known by k to have a word; b tests bits
-module _ (n : ℕ) (k : Known) (none : (i : ℕ) → ltb i n ≡ false → wordKnown k (wordOf i) ≡ false) (b : Bit → Bool) where
+-- no block from n on is marked by k to have a word; b tests bits
+module _ (n : ℕ) (k : Marks) (none : (i : ℕ) → ltb i n ≡ false → wordMarked k (wordOf i) ≡ false) (b : Bit → Bool) where
   abbrev first : Word → Bool
-  first = wordKnown (firstBlocks n)
+  first = wordMarked (firstBlocks n)
 
-  word-walk : (i : ℕ) (l : List ℕ) → n ≤ length l → Walk (answers n l k) (wordKnown k (wordOf i)) (first (wordOf i)) (answers n (set l i 1) k)
+  word-walk : (i : ℕ) (l : List ℕ) → n ≤ length l → Walk (allAnswer n l k) (wordMarked k (wordOf i)) (first (wordOf i)) (allAnswer n (set l i 1) k)
   word-walk i l few = go (ltb i n) refl
     where
-      go : (x : Bool) → ltb i n ≡ x → Walk (answers n l k) (wordKnown k (wordOf i)) (first (wordOf i)) (answers n (set l i 1) k)
+      go : (x : Bool) → ltb i n ≡ x → Walk (allAnswer n l k) (wordMarked k (wordOf i)) (first (wordOf i)) (allAnswer n (set l i 1) k)
       go true e = record { told = rw (first-word n i, e) (sym (asked-one k n i l (ltb-true i n e) few)) }
-      go false e = record { told = rw (first-word n i, e, none i e) (and-false (answers n l k)) }
+      go false e = record { told = rw (first-word n i, e, none i e) (and-false (allAnswer n l k)) }
+
+  words-walk : (ws : List Word) (l : List ℕ) → n ≤ length l
+      → Walk (allAnswer n l k) (every (wordMarked k) ws) (every first ws) (allAnswer n (asks ws l) k)
+  words-walk [] l few = walk-same (allAnswer n l k) true
+  words-walk (analog i ∷ ws) l few = words-walk ws l few
+  words-walk (wordOf i ∷ ws) l few = walk-on (word-walk i l few) (words-walk ws (set l i 1) (rw (length-set l i 1) few))
+  words-walk (constant v ∷ ws) l few = words-walk ws l few
 
   fields-walk : (cs : List Content) (l : List ℕ) → n ≤ length l
-      → Walk (answers n l k) (every (inContent b (wordKnown k)) cs) (every (inContent b first) cs) (answers n (asking cs l) k)
-  fields-walk [] l few = walk-same (answers n l k) true
-  fields-walk (bit r ∷ cs) l few = walk-on (walk-same (answers n l k) (b r)) (fields-walk cs l few)
-  fields-walk (word (analog i) ∷ cs) l few = fields-walk cs l few
-  fields-walk (word (wordOf i) ∷ cs) l few = walk-on (word-walk i l few) (fields-walk cs (set l i 1) (rw (length-set l i 1) few))
-  fields-walk (word (constant v) ∷ cs) l few = fields-walk cs l few
-  fields-walk (number v ∷ cs) l few = fields-walk cs l few
-  fields-walk (tree t ∷ cs) l few = walk-on (walk-same (answers n l k) (inExpr b t)) (fields-walk cs l few)
+      → Walk (allAnswer n l k) (refsPass b (wordMarked k) cs) (refsPass b first cs) (allAnswer n (asking cs l) k)
+  fields-walk cs l few = walk-on (walk-same (allAnswer n l k) (every b (bitRefs cs))) (words-walk (wordRefs cs) l few)
 
   blocks-walk : (bs : List Block) (l : List ℕ) → n ≤ length l
-      → Walk (answers n l k) (every (inBlock b (wordKnown k)) bs) (every (inBlock b first) bs) (answers n (askedBy bs l) k)
-  blocks-walk [] l few = walk-same (answers n l k) true
+      → Walk (allAnswer n l k) (every (blockPasses b (wordMarked k)) bs) (every (blockPasses b first) bs) (allAnswer n (askedBy bs l) k)
+  blocks-walk [] l few = walk-same (allAnswer n l k) true
   blocks-walk (x ∷ bs) l few =
-      walk-on (fields-walk (x .fields) l few) (blocks-walk bs (asking (x .fields) l) (rw (asking-long (x .fields) l) few))
+      walk-on (fields-walk (x .fields) l few) (blocks-walk bs (asking (x .fields) l) (rw (asks-long (wordRefs (x .fields)) l) few))
 
--- all references are there exactly if the first reading passes them and each block that was asked answers
+-- all references are there exactly if the first reading passes them and each block that was asked allAnswer
 pub there-answers :
     (p : Program) → length (p .blocks) ≤ 200 →
     allThere p
-    ≡ (inProgram (bitKnown (firstBlocks (length (p .blocks)))) (wordKnown (firstBlocks (length (p .blocks)))) p
-    && answers (length (p .blocks)) (askedBy (p .blocks) (replicate 200 0)) (knownOf (p .blocks)))
-unfolding allThere inProgram
+    ≡ (allPass (bitMarked (firstBlocks (length (p .blocks)))) (wordMarked (firstBlocks (length (p .blocks)))) p
+    && allAnswer (length (p .blocks)) (askedBy (p .blocks) (replicate 200 0)) (marksOf (p .blocks)))
+unfolding allThere allPass
 there-answers p few =
     let bs : List Block = p .blocks in
-    let k : Known = knownOf bs in
-    let f : Known = firstBlocks (length bs) in
-    let eb : bitKnown f ≡ bitThere bs = fun-ext (first-bits bs) in
-    let ew : wordKnown k ≡ wordThere bs = fun-ext (known-words bs) in
-    let w = blocks-walk (length bs) k (λ i e. known-words bs (wordOf i) ∙ rw e) (bitThere bs) bs (replicate 200 0) (rw (length-replicate {A = ℕ} 200 0) few) in
-    let e : every (inBlock (bitThere bs) (wordKnown k)) bs
-    ≡ (every (inBlock (bitThere bs) (wordKnown f)) bs && answers (length bs) (askedBy bs (replicate 200 0)) k)
+    let k : Marks = marksOf bs in
+    let f : Marks = firstBlocks (length bs) in
+    let eb : bitMarked f ≡ bitThere bs = fun-ext (first-bits bs) in
+    let ew : wordMarked k ≡ wordThere bs = fun-ext (marked-words bs) in
+    let w = blocks-walk (length bs) k (λ i e. marked-words bs (wordOf i) ∙ rw e) (bitThere bs) bs (replicate 200 0) (rw (length-replicate {A = ℕ} 200 0) few) in
+    let e : every (blockPasses (bitThere bs) (wordMarked k)) bs
+    ≡ (every (blockPasses (bitThere bs) (wordMarked f)) bs && allAnswer (length bs) (askedBy bs (replicate 200 0)) k)
     = rw (unasked k (length bs) few) at (w .told) in
     rw (eb, sym ew, e)
-    (swap (every (inBlock (bitThere bs) (wordKnown f)) bs) (answers (length bs) (askedBy bs (replicate 200 0)) k) (every (bitThere bs) (p .alarms)))
+    (swap (every (blockPasses (bitThere bs) (wordMarked f)) bs) (allAnswer (length bs) (askedBy bs (replicate 200 0)) k) (every (bitThere bs) (p .alarms)))

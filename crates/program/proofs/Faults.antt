@@ -1,29 +1,28 @@
 -- The place rule: a reading that comes to a number's first byte ends at another, or faults with what stands there. So no fault has number 0,
--- which stands for no refusal, and the first reading finds no reference astray. Assumes nothing.
-use Prim.Native.Nat.{ℕ, zero, suc, _-_, _<_, _≤_}
-use mathlib.Core.Path.{_≡_, refl, sym, subst, _∙_}
-use mathlib.Core.Bool.{Bool, true, false}
+-- which stands for no refusal. Assumes nothing.
+use Prim.Native.Nat.{ℕ, zero, suc, _-_, _<_}
+use mathlib.Core.Path.{_≡_, refl, subst}
 use mathlib.Core.List.{List, [], _∷_}
 use native.Mathlib.Omega.{arith}
 use lib.Dec.{eqb, leb, ltb}
-use lib.ListN.{length, getD-replicate}
-use borrow.Author.Tests.{eqb-true, ltb-true}
+use lib.ListN.{length}
+use borrow.Author.Tests.{ltb-true}
 use Rattle.wire.specs.declared.Num.{Num}
 use Rattle.wire.specs.declared.Num.the-variants.{Got, Bad, Cut}
 use Rattle.wire.specs.Number.{numberAt}
-use Rattle.wire.specs.Choice.{pick}
-use Rattle.wire.proofs.Choice.{pick-case, when-case}
+use Rattle.terms.proofs.Choice.{pick-case, when-case}
 use Rattle.wire.proofs.Laws.{takes}
-use Rattle.block.specs.Refusals.{outside, overMemory}
-use Rattle.block.specs.Blocks.{Bit, Expr, nodes}
-use Rattle.block.specs.Kinds.{pin, wordPin, expression, kindNumber, blockCount, alarmCount, nodeNumber, allowed, bitRef, wordRef, settingOf, typesOf}
-use Rattle.block.specs.Reading.{Read, got, fault, andThen, Known, bitKnown, wordKnown, known, judged, typedAt, nodeOf, headAt, grow, exprAt, contentAt, fieldsAt, blockAt}
-use Rattle.block.specs.declared.Node.{Node}
-use Rattle.block.specs.declared.Node.the-variants.{Leaf, One, Two, Stop}
-use Rattle.block.proofs.References.{bit-cases, word-cases, allowed-below}
-use Rattle.block.proofs.Expressions.{Sound, sound}
-use Rattle.program.specs.Program.{Program, blocksAt, referencesAt, endAt, alarmsAt, programAt, memory, figure}
-use Rattle.program.specs.Acceptance.{refused, taken, everyBlock, knownOf, byMemory, byReferences, accepted}
+use Rattle.numbers.specs.Blocks.{Bit, Expr, nodes}
+use Rattle.numbers.specs.Types.{pin, kindNumber, blockCount, alarmCount, nodeNumber, allowed, settingOf}
+use Rattle.kinds.specs.Kinds.{expression, typesOf}
+use Rattle.wire.specs.Reading.{Read, got, fault, andThen}
+use Rattle.numbers.specs.Reading.{Marks, marked, judged, typedAt}
+use Rattle.nodes.specs.Reading.{nodeOf, headAt, grow, exprAt}
+use Rattle.block.specs.Reading.{contentAt, fieldsAt, blockAt}
+use Rattle.nodes.specs.declared.Node.{Node}
+use Rattle.nodes.specs.declared.Node.the-variants.{Leaf, One, Two, Stop}
+use Rattle.nodes.proofs.Expressions.{Sound, sound}
+use Rattle.program.specs.Program.{blocksAt, referencesAt, endAt, alarmsAt, programAt}
 use Rattle.program.specs.Places.{Starts, front, after, Placed, is-bad, is-cut, is-outside, is-astray}
 
 -- a number that is read stands within the data
@@ -31,7 +30,7 @@ within : (s : List ℕ) (at v next : ℕ) → numberAt s at ≡ Got v next → a
 unfolding numberAt
 within s at v next e = let t = takes 3 0 s at v next e in omega arith
 
-module _ (k : Known) (s : List ℕ) where
+module _ (k : Marks) (s : List ℕ) where
   abbrev Fine : {A : Type 0} → Read A → Type 0
   Fine (got a next) = Starts s next
   Fine (fault n at) = Placed k s n at
@@ -51,7 +50,7 @@ module _ (k : Known) (s : List ℕ) where
   judged-passed ty before at h (Got v next) e =
       let l = within s at v next e in
       pick-case (Passed at) (allowed ty before v)
-      (λ a. pick-case (Passed at) (known k ty v) (λ _. (l, after h e)) (λ u. is-astray ty before h e a u))
+      (λ a. pick-case (Passed at) (marked k ty v) (λ _. (l, after h e)) (λ u. is-astray ty before h e a u))
       (λ _. is-outside h l)
 
   passed-fine : (at : ℕ) (r : Read ℕ) → Passed at r → Fine r
@@ -149,68 +148,15 @@ module _ (k : Known) (s : List ℕ) where
       (λ n at h. fine-then (blocksAt k n s at) _ (blocks-fine n at h)
       (λ bs at h. fine-then (alarmsAt k s at) _ (alarms-fine at h) (λ rs e u. u)))
 
-pub program-placed : (k : Known) (s : List ℕ) {n at : ℕ} → programAt k s ≡ fault n at → Placed k s n at
+pub program-placed : (k : Marks) (s : List ℕ) {n at : ℕ} → programAt k s ≡ fault n at → Placed k s n at
 program-placed k s e = subst (Fine k s) e (program-fine k s)
 
 -- what stands at a fault's place tells of its number
-placed-real : {k : Known} {s : List ℕ} {n at : ℕ} → Placed k s n at → 0 < n
+placed-real : {k : Marks} {s : List ℕ} {n at : ℕ} → Placed k s n at → 0 < n
 placed-real (is-bad h e) = omega arith
 placed-real (is-cut h e) = omega arith
 placed-real (is-outside h l) = omega arith
 placed-real (is-astray ty before h e a u) = omega arith
 
-pub program-fault : (k : Known) (s : List ℕ) {n at : ℕ} → programAt k s ≡ fault n at → 0 < n
+pub program-fault : (k : Marks) (s : List ℕ) {n at : ℕ} → programAt k s ≡ fault n at → 0 < n
 program-fault k s e = placed-real (program-placed k s e)
-
--- where every block is known, so is all that an allowed number refers to
-every-bit : (v : ℕ) → v < 234 → bitKnown everyBlock (bitRef v) ≡ true
-every-bit v h =
-    bit-cases (λ b. bitKnown everyBlock b ≡ true) v (λ _. refl) (λ _. refl) (λ _ _. refl)
-    (λ g. rw (getD-replicate {A = ℕ} 200 (v - 34) 2 0 (omega arith)))
-
-every-word : (v : ℕ) → wordKnown everyBlock (wordRef v) ≡ true
-every-word v =
-    word-cases (λ w. wordKnown everyBlock w ≡ true) v (λ _. refl) (λ g h. rw (getD-replicate {A = ℕ} 200 (v - 8) 2 0 (omega arith))) (λ _. refl)
-
-every-known : (ty before v : ℕ) → allowed ty before v ≡ true → known everyBlock ty v ≡ true
-unfolding known
-every-known ty before v a =
-    let below = allowed-below ty before v a in
-    let P : Bool → Type 0 = λ b. b ≡ true in
-    pick-case P (eqb ty pin) (λ e. every-bit v (rw (eqb-true ty pin e) at below))
-    (λ _. pick-case P (eqb ty nodeNumber)
-    (λ e. pick-case P (ltb v 6) (λ _. refl)
-    (λ _. every-bit (v - 6) (let l : v < 240 = rw (eqb-true ty nodeNumber e) at below in omega arith)))
-    (λ _. pick-case P (eqb ty wordPin) (λ _. every-word v) (λ _. refl)))
-
-placed-inside : {s : List ℕ} {n at : ℕ} → Placed everyBlock s n at → n ≤ outside
-placed-inside (is-bad h e) = omega arith
-placed-inside (is-cut h e) = omega arith
-placed-inside (is-outside h l) = omega arith
-placed-inside (is-astray {v = v} ty before h e a u) =
-    let z : true ≡ false = sym (every-known ty before v a) ∙ u in
-    let w : _≡_ {A = ℕ} 0 1 = cc in absurd (omega arith)
-
-pub reads-all : (s : List ℕ) {n at : ℕ} → programAt everyBlock s ≡ fault n at → n ≤ outside
-reads-all s e = placed-inside (program-placed everyBlock s e)
-
--- what acceptance says of a program that it does not refuse
-pub data Good (s : List ℕ) : Type 0 where
-  good : (p : Program) (end : ℕ) → programAt everyBlock s ≡ got p end → accepted s .steps ≡ figure (p .blocks) → Good s
-
-pub accepted-good : (s : List ℕ) → accepted s .refusal ≡ 0 → Good s
-unfolding accepted
-accepted-good s e = first (programAt everyBlock s) refl e
-  where
-    over : (b : Bool) (m f : ℕ) → pick b (refused overMemory 0) (taken m f) .refusal ≡ 0 → pick b (refused overMemory 0) (taken m f) .steps ≡ f
-    over true m f e = absurd (omega arith)
-    over false m f e = refl
-
-    second : (p : Program) (end : ℕ) → programAt everyBlock s ≡ got p end → (r : Read Program) → programAt (knownOf (p .blocks)) s ≡ r
-        → byMemory p r .refusal ≡ 0 → byMemory p r .steps ≡ figure (p .blocks)
-    second p end h (got q m) w e = over (ltb 5000 (memory (p .blocks))) (memory (p .blocks)) (figure (p .blocks)) e
-    second p end h (fault n at) w e = absurd (omega (arith, program-fault (knownOf (p .blocks)) s w))
-
-    first : (r : Read Program) → programAt everyBlock s ≡ r → byReferences s r .refusal ≡ 0 → Good s
-    first (got p end) h e = good p end h (rw h (second p end h (programAt (knownOf (p .blocks)) s) refl e))
-    first (fault n at) h e = absurd (omega (arith, program-fault everyBlock s h))

@@ -7,30 +7,34 @@ use native.Mathlib.Omega.{arith}
 use lib.Dec.{eqb, leb, ltb}
 use lib.ListN.{length}
 use borrow.Author.Tests.{ne-eqb}
-use Rattle.wire.specs.Choice.{pick}
-use Rattle.block.specs.Refusals.{overMemory}
-use Rattle.block.specs.Kinds.{blockCount}
-use Rattle.block.specs.Reading.{Read, got, fault, Known, bitKnown, wordKnown, typedAt}
-use Rattle.block.proofs.Gives.{Gives, gives-by, gives-then, gives-after}
-use Rattle.block.proofs.References.{leb-not}
-use Rattle.block.proofs.Expressions.{typed-below}
+use Rattle.kinds.specs.Kinds.{memoryLimit}
+use Rattle.terms.specs.Choice.{pick}
+use Rattle.terms.specs.Refusals.{overMemory}
+use Rattle.numbers.specs.Types.{blockCount}
+use Rattle.wire.specs.Reading.{Read, got, fault}
+use Rattle.numbers.specs.Reading.{Marks, bitMarked, wordMarked, typedAt}
+use Rattle.wire.proofs.Gives.{Gives, gives-by, gives-then, gives-after}
+use Rattle.numbers.proofs.References.{leb-not}
+use Rattle.numbers.proofs.Typed.{typed-below}
 use Rattle.program.specs.Program.{Program, blocksAt, alarmsAt, programAt, memory, figure}
-use Rattle.program.specs.Acceptance.{refused, taken, everyBlock, knownOf, byMemory, accepted}
-use Rattle.program.specs.References.{inProgram, allThere}
-use Rattle.program.specs.Trial.{firstBlocks, acceptable, tried}
-use Rattle.program.proofs.Laws.{blocks-long}
-use Rattle.program.proofs.Faults.{program-fault, reads-all}
+use Rattle.program.specs.Acceptance.{refused, granted, everyBlock, marksOf, byMemory, accepted}
+use Rattle.program.specs.References.{allPass, allThere}
+use Rattle.program.specs.Trial.{firstBlocks, passesTrial, trialPasses}
+use Rattle.program.proofs.Blocks.{blocks-long}
+use Rattle.program.proofs.Faults.{program-fault}
+use Rattle.program.proofs.FirstReading.{reads-all}
 use Rattle.program.proofs.Again.{Again, same, stray}
-use Rattle.program.proofs.Second.{program-again, second}
+use Rattle.program.proofs.Rereading.{program-again}
+use Rattle.program.proofs.Marks.{second}
 use Rattle.program.proofs.Asked.{there-answers}
 
 -- what is read by any knowledge is read where every reference is let through
-pub read-by-any : (k : Known) (s : List ℕ) {p : Program} {end : ℕ} → programAt k s ≡ got p end → programAt everyBlock s ≡ got p end
+pub read-by-any : (k : Marks) (s : List ℕ) {p : Program} {end : ℕ} → programAt k s ≡ got p end → programAt everyBlock s ≡ got p end
 read-by-any k s {p} {end} e = go (rw e at (program-again k everyBlock s))
   where
-    go : Again (inProgram (bitKnown everyBlock) (wordKnown everyBlock) p) p end (programAt everyBlock s) → programAt everyBlock s ≡ got p end
+    go : Again (allPass (bitMarked everyBlock) (wordMarked everyBlock) p) p end (programAt everyBlock s) → programAt everyBlock s ≡ got p end
     go (same t h) = h
-    go (stray t at h) = absurd (omega (arith, reads-all s h))
+    go (stray t at h) = absurd (reads-all s h refl)
 
 -- so what that one reading reads is the program
 pub trial-read :
@@ -39,7 +43,7 @@ pub trial-read :
 trial-read s {n} e h = read-by-any (firstBlocks n) s h
 
 -- a program has as many blocks as its count says
-program-long : (k : Known) (s : List ℕ) {n at : ℕ} → typedAt k blockCount 0 s 0 ≡ got n at → Gives (λ p. length (p .blocks) ≡ n) (programAt k s)
+program-long : (k : Marks) (s : List ℕ) {n at : ℕ} → typedAt k blockCount 0 s 0 ≡ got n at → Gives (λ p. length (p .blocks) ≡ n) (programAt k s)
 unfolding programAt
 program-long k s {n} {at} e =
     rw e
@@ -48,38 +52,38 @@ program-long k s {n} {at} e =
     (λ bs m h. gives-after (λ p. length (p .blocks) ≡ n) (alarmsAt k s m) _ (λ rs end. h)))
 
 -- acceptance of a program that is read, by its references and its memory
-over : (b : Bool) (m f : ℕ) → eqb (pick b (refused overMemory 0) (taken m f) .refusal) 0 ≡ not b
+over : (b : Bool) (m f : ℕ) → eqb (pick b (refused overMemory 0) (granted m f) .refusal) 0 ≡ not b
 over true m f = refl
 over false m f = refl
 
 pub accepted-by : (s : List ℕ) (p : Program) {end : ℕ} → programAt everyBlock s ≡ got p end
-    → eqb (accepted s .refusal) 0 ≡ (allThere p && leb (memory (p .blocks)) 5000)
+    → eqb (accepted s .refusal) 0 ≡ (allThere p && leb (memory (p .blocks)) memoryLimit)
 unfolding accepted
 accepted-by s p {end} e = rw e (go (second s p e))
   where
-    go : Again (allThere p) p end (programAt (knownOf (p .blocks)) s)
-        → eqb (byMemory p (programAt (knownOf (p .blocks)) s) .refusal) 0 ≡ (allThere p && leb (memory (p .blocks)) 5000)
-    go (same t h) = rw (t, h, leb-not (memory (p .blocks)) 5000) (over (ltb 5000 (memory (p .blocks))) (memory (p .blocks)) (figure (p .blocks)))
+    go : Again (allThere p) p end (programAt (marksOf (p .blocks)) s)
+        → eqb (byMemory p (programAt (marksOf (p .blocks)) s) .refusal) 0 ≡ (allThere p && leb (memory (p .blocks)) memoryLimit)
+    go (same t h) = rw (t, h, leb-not (memory (p .blocks)) memoryLimit) (over (ltb memoryLimit (memory (p .blocks))) (memory (p .blocks)) (figure (p .blocks)))
     go (stray t at h) = rw (t, h)
 
 -- the one reading tells whether the program is accepted
-pub trial : (s : List ℕ) {n at : ℕ} → typedAt everyBlock blockCount 0 s 0 ≡ got n at → eqb (accepted s .refusal) 0 ≡ tried (programAt (firstBlocks n) s)
-unfolding accepted tried acceptable
+pub trial : (s : List ℕ) {n at : ℕ} → typedAt everyBlock blockCount 0 s 0 ≡ got n at → eqb (accepted s .refusal) 0 ≡ trialPasses (programAt (firstBlocks n) s)
+unfolding accepted trialPasses passesTrial
 trial s {n} {at} count = whole (programAt everyBlock s) refl
   where
-    no-trial : (x z : ℕ) → programAt everyBlock s ≡ fault x z → (r : Read Program) → programAt (firstBlocks n) s ≡ r → false ≡ tried r
+    no-trial : (x z : ℕ) → programAt everyBlock s ≡ fault x z → (r : Read Program) → programAt (firstBlocks n) s ≡ r → false ≡ trialPasses r
     no-trial x z e (got p end) h =
         let u : _≡_ {A = Read Program} (fault x z) (got p end) = sym e ∙ read-by-any (firstBlocks n) s h in
         let w : _≡_ {A = ℕ} 0 1 = cc in absurd (omega arith)
     no-trial x z e (fault y w) h = refl
 
     again : (p : Program) {end : ℕ} → length (p .blocks) ≡ n → length (p .blocks) ≤ 200
-        → Again (inProgram (bitKnown (firstBlocks n)) (wordKnown (firstBlocks n)) p) p end (programAt (firstBlocks n) s)
-        → (allThere p && leb (memory (p .blocks)) 5000) ≡ tried (programAt (firstBlocks n) s)
+        → Again (allPass (bitMarked (firstBlocks n)) (wordMarked (firstBlocks n)) p) p end (programAt (firstBlocks n) s)
+        → (allThere p && leb (memory (p .blocks)) memoryLimit) ≡ trialPasses (programAt (firstBlocks n) s)
     again p l few (same t h) = rw (h, there-answers p few, l, t)
     again p l few (stray t at h) = rw (h, there-answers p few, l, t)
 
-    whole : (r : Read Program) → programAt everyBlock s ≡ r → eqb (accepted s .refusal) 0 ≡ tried (programAt (firstBlocks n) s)
+    whole : (r : Read Program) → programAt everyBlock s ≡ r → eqb (accepted s .refusal) 0 ≡ trialPasses (programAt (firstBlocks n) s)
     whole (got p end) e =
         let l : length (p .blocks) ≡ n = subst (Gives (λ p. length (p .blocks) ≡ n)) e (program-long everyBlock s count) in
         let few : length (p .blocks) ≤ 200 = omega (arith, typed-below everyBlock blockCount 0 s 0 count) in

@@ -1,21 +1,18 @@
 // A whole program read from its bytes, and accepted or refused.
 use block::Brief;
 use block::End;
-use block::Number;
+use numbers::Number;
 ghost use mathlib.Core.Path.{_≡_};
 ghost use Prim.Native.Nat.{_≤_, _<_};
 ghost use Rattle.program.specs.Program.{blocksAt, referencesAt, alarmsAt, programAt};
-ghost use Rattle.program.specs.Acceptance.{accepted, everyBlock, refused};
+ghost use Rattle.program.specs.Acceptance.{accepted, refused};
 ghost use Rattle.program.specs.Answers.{blankReading, blocksRead, endOf, programRead};
 
-// The most memory that a program may use.
-const MEMORY: u32 = 5000;
-
-// Memory and step figure of what was read, what is known of each block now, and where it ends.
+// Memory and step figure of what was read, the mark of each block, and where it ends.
 pub struct Reading {
     pub memory: u32,
     pub steps: u32,
-    pub blocks: [u8; 200],
+    pub marks: [u8; 200],
     pub end: End,
 }
 
@@ -26,23 +23,23 @@ fn blank(no: u8, at: usize) -> Reading
     Reading {
         memory: 0,
         steps: 0,
-        blocks: [0u8; 200],
+        marks: [0u8; 200],
         end: End::Fault(no, at),
     }
 }
 
 // n blocks from `start` on.
-fn read_blocks(s: &[u8], start: usize, n: u32, known: &[u8; 200]) -> Reading
+fn read_blocks(s: &[u8], start: usize, n: u32, marks: &[u8; 200]) -> Reading
     requires { ⌜ n ≤ 200 ⌝ }
-    ensures { λ r. ⌜ r ≡ blocksRead (blocksAt (now (known .entry)) n (now (s .entry)) start) ⌝ }
+    ensures { λ r. ⌜ r ≡ blocksRead (blocksAt (now (marks .entry)) n (now (s .entry)) start) ⌝ }
 {
     let mut memory: u32 = 0;
     let mut steps: u32 = 0;
-    let mut blocks = [0u8; 200];
+    let mut own = [0u8; 200];
     let mut at = start;
     let mut i: u32 = 0;
     while i < n {
-        let b = block::read_block(s, at, known);
+        let b = block::read_block(s, at, marks);
         match b {
             Brief::Fault(no, place) => {
                 return blank(no, place);
@@ -56,7 +53,7 @@ fn read_blocks(s: &[u8], start: usize, n: u32, known: &[u8; 200]) -> Reading
                 memory += m;
                 steps += figure;
                 let k = i as usize;
-                blocks[k] = mark;
+                own[k] = mark;
                 at = next;
             }
         }
@@ -65,19 +62,19 @@ fn read_blocks(s: &[u8], start: usize, n: u32, known: &[u8; 200]) -> Reading
     Reading {
         memory,
         steps,
-        blocks,
+        marks: own,
         end: End::Next(at),
     }
 }
 
 // n bit references from `start` on.
-fn read_references(s: &[u8], start: usize, n: u32, known: &[u8; 200]) -> End
-    ensures { λ r. ⌜ r ≡ endOf (referencesAt (now (known .entry)) n (now (s .entry)) start) ⌝ }
+fn read_references(s: &[u8], start: usize, n: u32, marks: &[u8; 200]) -> End
+    ensures { λ r. ⌜ r ≡ endOf (referencesAt (now (marks .entry)) n (now (s .entry)) start) ⌝ }
 {
     let mut at = start;
     let mut left = n;
     while 0 < left {
-        let r = block::read_number(s, at, block::PIN, 0, known);
+        let r = numbers::read_number(s, at, numbers::PIN, 0, marks);
         match r {
             Number::Fault(no, place) => {
                 return End::Fault(no, place);
@@ -92,19 +89,19 @@ fn read_references(s: &[u8], start: usize, n: u32, known: &[u8; 200]) -> End
 }
 
 // The alarms from `start` on, and then the end of the data.
-fn read_alarms(s: &[u8], start: usize, known: &[u8; 200]) -> End
-    ensures { λ r. ⌜ r ≡ endOf (alarmsAt (now (known .entry)) (now (s .entry)) start) ⌝ }
+fn read_alarms(s: &[u8], start: usize, marks: &[u8; 200]) -> End
+    ensures { λ r. ⌜ r ≡ endOf (alarmsAt (now (marks .entry)) (now (s .entry)) start) ⌝ }
 {
-    let c = block::read_number(s, start, block::ALARM_COUNT, 0, known);
+    let c = numbers::read_number(s, start, numbers::ALARM_COUNT, 0, marks);
     match c {
         Number::Fault(no, place) => End::Fault(no, place),
         Number::Got(n, next) => {
-            let r = read_references(s, next, n, known);
+            let r = read_references(s, next, n, marks);
             match r {
                 End::Fault(_, _) => r,
                 End::Next(at) => {
                     if at < s.len() {
-                        return End::Fault(block::OUTSIDE, at);
+                        return End::Fault(terms::OUTSIDE, at);
                     }
                     r
                 }
@@ -113,28 +110,28 @@ fn read_alarms(s: &[u8], start: usize, known: &[u8; 200]) -> End
     }
 }
 
-// The whole program, with what is known of its blocks.
-pub fn read_program(s: &[u8], known: &[u8; 200]) -> Reading
-    ensures { λ r. ⌜ r ≡ programRead (programAt (now (known .entry)) (now (s .entry))) ⌝ }
+// The whole program, by the marks of its blocks.
+fn read_program(s: &[u8], marks: &[u8; 200]) -> Reading
+    ensures { λ r. ⌜ r ≡ programRead (programAt (now (marks .entry)) (now (s .entry))) ⌝ }
 {
-    let c = block::read_number(s, 0, block::BLOCK_COUNT, 0, known);
+    let c = numbers::read_number(s, 0, numbers::BLOCK_COUNT, 0, marks);
     match c {
         Number::Fault(no, place) => blank(no, place),
         Number::Got(n, next) => {
-            let r = read_blocks(s, next, n, known);
+            let r = read_blocks(s, next, n, marks);
             let e = r.end;
             match e {
                 End::Fault(_, _) => r,
                 End::Next(at) => {
-                    let a = read_alarms(s, at, known);
+                    let a = read_alarms(s, at, marks);
                     match a {
                         End::Fault(no, place) => blank(no, place),
                         End::Next(end) => {
-                            let blocks = r.blocks;
+                            let own = r.marks;
                             Reading {
                                 memory: r.memory,
                                 steps: r.steps,
-                                blocks,
+                                marks: own,
                                 end: End::Next(end),
                             }
                         }
@@ -175,14 +172,14 @@ pub fn accept(program: &[u8]) -> Acceptance
     match e {
         End::Fault(no, at) => refuse(no, at),
         End::Next(_) => {
-            let known = first.blocks;
-            let again = read_program(program, &known);
+            let marks = first.marks;
+            let again = read_program(program, &marks);
             let f = again.end;
             match f {
                 End::Fault(no, at) => refuse(no, at),
                 End::Next(_) => {
-                    if MEMORY < first.memory {
-                        return refuse(block::OVER_MEMORY, 0);
+                    if kinds::MEMORY_LIMIT < first.memory {
+                        return refuse(terms::OVER_MEMORY, 0);
                     }
                     Acceptance {
                         refusal: 0,

@@ -11,7 +11,7 @@ use Rattle.wire.specs.declared.Num.{Num}
 use Rattle.wire.specs.declared.Num.the-variants.{Got, Bad, Cut}
 use Rattle.wire.specs.Number.{byteAt, more, notZero, groupsAt, groupsOf}
 use Rattle.wire.specs.Facts.{Stands, Bytes, NumberFacts}
-use Rattle.wire.proofs.Choice.{pick-case}
+use Rattle.terms.proofs.Choice.{pick-case}
 
 -- what an answer of at most k groups, from `at` on, tells of its value and of the place after it
 abbrev Fair : ℕ → List ℕ → ℕ → Num → Type 0

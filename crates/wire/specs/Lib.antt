@@ -1,3 +1,3 @@
-pub mod Choice
 pub mod Number
+pub mod Reading
 pub mod Facts

@@ -1,5 +1,5 @@
 -- `block::figure_of` meets its contract, by its test.
-use Rattle.block.specs.Kinds.{figureFor}
+use Rattle.kinds.specs.Kinds.{figureFor}
 use borrow.Author.Tests.{eq-eqb, ne-eqb}
 use Rattle.block.proofs.figure_of.Statement.{statement}
 use Rattle.block.proofs.figure_of.Tie as tie

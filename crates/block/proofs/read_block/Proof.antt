@@ -1,8 +1,8 @@
 -- `block::read_block` meets its contract: its kind, and then its row.
 use Rattle.block.proofs.Rows.{row-full, row-stopped, block-full, block-stopped, row-light}
-use Rattle.block.proofs.KindTable.{memory-light}
-use Rattle.block.proofs.Expressions.{typed-below}
-use Rattle.block.proofs.Answers.{typed-got, typed-fault}
+use Rattle.kinds.proofs.KindTable.{memory-light}
+use Rattle.numbers.proofs.Typed.{typed-below}
+use Rattle.numbers.proofs.Answers.{typed-got, typed-fault}
 use Rattle.block.specs.Reading.{blockAt}
 use native.Mathlib.Omega.{arith}
 use mathlib.Core.Path.{_∙_, sym}

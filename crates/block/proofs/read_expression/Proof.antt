@@ -1,6 +1,6 @@
 -- `block::read_expression` meets its contract: the expression that is passed over.
 use Rattle.block.proofs.Rows.{tree-full, tree-stopped}
-use Rattle.block.proofs.Expressions.{expr-whole, expr-fault}
+use Rattle.nodes.proofs.Expressions.{expr-whole, expr-fault}
 use mathlib.Core.Path.{_∙_, sym}
 use borrow.Author.Needs.{needs}
 use Rattle.block.proofs.read_expression.Statement.{statement}

@@ -1,7 +1,7 @@
 -- `block::read_row` meets its contract: in each arm the calls read the row by the kind's types in the table.
 use Rattle.block.proofs.Rows.{row-read}
-use Rattle.block.proofs.Table.{last}
-use Rattle.block.specs.Kinds.{kindOf, typesOf}
+use Rattle.terms.proofs.Table.{last}
+use Rattle.kinds.specs.Kinds.{kindOf, typesOf}
 use borrow.Author.Needs.{needs}
 use mathlib.Core.Path.{_∙_, refl}
 use Rattle.block.proofs.read_row.Statement.{statement}

@@ -1,9 +1,9 @@
 -- `expression::eval`, `part` and `second` meet their contracts, by recursion on the depth left: each return is one level of the definition.
 use Rattle.expression.proofs.Laws.{value-not, value-broken, value-two, join-skipped, join-lost, join-both, join-broken, steps-few}
 use Rattle.expression.specs.Expression.{bitIn}
-use Rattle.block.proofs.Expressions.{sound, step}
-use Rattle.block.proofs.References.{bit-code}
-use Rattle.block.specs.Reading.{exprAt}
+use Rattle.nodes.proofs.Expressions.{sound, step}
+use Rattle.numbers.proofs.References.{bit-code}
+use Rattle.nodes.specs.Reading.{exprAt}
 use borrow.Author.Needs.{needs}
 use native.Mathlib.Omega.{arith}
 use mathlib.Core.Path.{_∙_, sym}
@@ -19,7 +19,7 @@ use Rattle.expression.proofs.+eval+part+second.Lts-part as part-lts
 use Rattle.expression.proofs.second.Reads as second
 use Rattle.expression.proofs.second.Kinds as second-kinds
 use Rattle.expression.proofs.+eval+part+second.Lts-second as second-lts
-use Rattle.block.proofs.head.Reads as head-reads
+use Rattle.nodes.proofs.head.Reads as head-reads
 use Rattle.expression.proofs.skip.Reads as skip-reads
 use Rattle.expression.proofs.gate.Reads as gate-reads
 use Rattle.expression.proofs.skips.Reads as skips-reads
@@ -89,9 +89,9 @@ pub +eval+part+second-spec : {M : Type 1} → statement M
     (λ c. search needs)
     (λ c. rw (step, (sym (c .before .before .before .head .ensures) ∙ c .before .h .given .1)))
     (λ c. rw (step, (sym (c .before .before .before .before .head .ensures) ∙ c .before .before .h2 .given .1), bit-code))
-    (λ c. let a = c .before .before .before .before .before .before .before .before .before .args in rw (step, (sym (c .before .before .before .before .before .before .before .head .ensures) ∙ c .before .before .before .before .before .h3 .given .1)) (value-not (bitIn (a .bits .now)) (a .left) (exprAt (a .blocks .now) (a .depth - 1) (a .left - 1) (a .s .now) (c .before .before .before .before .before .h3 .given .0 .0)) (sym (c .before .before .before .eval .ensures) ∙ c .before .a .given .1)))
+    (λ c. let a = c .before .before .before .before .before .before .before .before .before .args in rw (step, (sym (c .before .before .before .before .before .before .before .head .ensures) ∙ c .before .before .before .before .before .h3 .given .1)) (value-not (bitIn (a .bits .now)) (a .left) (exprAt (a .marks .now) (a .depth - 1) (a .left - 1) (a .s .now) (c .before .before .before .before .before .h3 .given .0 .0)) (sym (c .before .before .before .eval .ensures) ∙ c .before .a .given .1)))
     (λ c. rw (step, (sym (c .before .before .before .before .before .before .before .head .ensures) ∙ c .before .before .before .before .before .h3 .given .1), value-broken _ _ _ _ _ (sym (c .before .before .before .eval .ensures) ∙ c .before .a2 .given .1)))
-    (λ c. let a = c .before .before .before .before .before .before .before .before .before .before .args in rw (step, (sym (c .before .before .before .before .before .before .before .before .head .ensures) ∙ c .before .before .before .before .before .before .h4 .given .1), value-two (bitIn (a .bits .now)) (a .left) (c .before .before .before .before .before .before .h4 .given .0 .0) _ (λ l n. exprAt (a .blocks .now) (a .depth - 1) l (a .s .now) n) (sym (c .before .before .before .before .part .ensures) ∙ c .before .before .a3 .given .1)) (c .second .ensures))
+    (λ c. let a = c .before .before .before .before .before .before .before .before .before .before .args in rw (step, (sym (c .before .before .before .before .before .before .before .before .head .ensures) ∙ c .before .before .before .before .before .before .h4 .given .1), value-two (bitIn (a .bits .now)) (a .left) (c .before .before .before .before .before .before .h4 .given .0 .0) _ (λ l n. exprAt (a .marks .now) (a .depth - 1) l (a .s .now) n) (sym (c .before .before .before .before .part .ensures) ∙ c .before .before .a3 .given .1)) (c .second .ensures))
     (λ c. rw (step, (sym (c .before .before .before .before .before .before .before .head .ensures) ∙ c .before .before .before .before .before .h4 .given .1), value-broken _ _ _ _ _ (sym (c .before .before .before .part .ensures) ∙ c .before .a4 .given .1))))
     (λ t. part-lts.spec
     (head-reads.Asked, head-reads.Learnt, eval-below t, eval.Post)

@@ -2,7 +2,7 @@
 use mathlib.Core.Path.{sym, _∙_}
 use native.Mathlib.Omega.{arith}
 use borrow.Author.Needs.{needs}
-use Rattle.block.proofs.Expressions.{sound, on-leaf}
+use Rattle.nodes.proofs.Expressions.{sound, on-leaf}
 use Rattle.expression.proofs.skip.Statement.{statement}
 use Rattle.expression.proofs.skip.Tie as tie
 

@@ -1,5 +1,5 @@
 -- `program::accept` meets its contract: the first reading, the second, and the memory.
-use Rattle.program.proofs.Laws.{accept-stop, accept-astray, accept-over, accept-good}
+use Rattle.program.proofs.Accepting.{accept-stop, accept-astray, accept-over, accept-good}
 use mathlib.Core.Path.{_∙_}
 use borrow.Author.Needs.{needs}
 use Rattle.program.proofs.accept.Statement.{statement}

@@ -1,6 +1,6 @@
 -- `program::read_alarms` meets its contract: the count, the references, and the end of the data.
-use Rattle.program.proofs.Laws.{alarms-bad, alarms-stop, alarms-more, alarms-end}
-use Rattle.block.proofs.Answers.{typed-got, typed-fault}
+use Rattle.program.proofs.Alarms.{alarms-bad, alarms-stop, alarms-more, alarms-end}
+use Rattle.numbers.proofs.Answers.{typed-got, typed-fault}
 use mathlib.Core.Path.{_∙_, sym}
 use borrow.Author.Needs.{needs}
 use Rattle.program.proofs.read_alarms.Statement.{statement}

@@ -1,6 +1,6 @@
 -- `program::read_blocks` meets its contract. The loop's invariant: what is left of the blocks, after those tallied, is the whole.
 use native.Mathlib.Nat.{sub-zero}
-use Rattle.program.proofs.Laws.{blocks-got, blocks-stop, blocks-end}
+use Rattle.program.proofs.Blocks.{blocks-got, blocks-stop, blocks-end}
 use Rattle.program.specs.Answers.{blocksRead, readFrom}
 use Rattle.program.specs.Program.{blocksAt}
 use Rattle.block.proofs.Rows.{block-light}
@@ -13,10 +13,10 @@ use Rattle.program.proofs.read_blocks.Statement.{statement}
 use Rattle.program.proofs.read_blocks.Tie as tie
 
 abbrev Inv-loop : tie.InvT-loop
-Inv-loop s start n known memory₀ steps₀ blocks₀ at₀ i₀ memory steps blocks at i = ((i ≤ n) × ((length blocks ≡ 200) × ((memory ≤ i * 337) × (steps ≤ i * 315)))) × (blocksRead (blocksAt known n s start) ≡ readFrom i blocks memory steps (blocksAt known (n - i) s at))
+Inv-loop s start n marks memory₀ steps₀ own₀ at₀ i₀ memory steps own at i = ((i ≤ n) × ((length own ≡ 200) × ((memory ≤ i * 337) × (steps ≤ i * 315)))) × (blocksRead (blocksAt marks n s start) ≡ readFrom i own memory steps (blocksAt marks (n - i) s at))
 
 abbrev μ-loop : tie.MeasureT-loop
-μ-loop s start n known memory₀ steps₀ blocks₀ at₀ i₀ memory steps blocks at i = n - i
+μ-loop s start n marks memory₀ steps₀ own₀ at₀ i₀ memory steps own at i = n - i
 
 loop-holds : tie.Need-loop-holds Inv-loop μ-loop
 unfolding blocksRead

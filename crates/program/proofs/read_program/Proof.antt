@@ -1,7 +1,7 @@
 -- `program::read_program` meets its contract: the count, the blocks, and the alarms.
-use Rattle.program.proofs.Laws.{program-bad, program-stop, program-no-alarms, program-whole}
-use Rattle.block.proofs.Expressions.{typed-below}
-use Rattle.block.proofs.Answers.{typed-got, typed-fault}
+use Rattle.program.proofs.Accepting.{program-bad, program-stop, program-no-alarms, program-whole}
+use Rattle.numbers.proofs.Typed.{typed-below}
+use Rattle.numbers.proofs.Answers.{typed-got, typed-fault}
 use native.Mathlib.Omega.{arith}
 use mathlib.Core.Path.{_∙_, sym}
 use borrow.Author.Needs.{needs}

@@ -1,8 +1,8 @@
 -- `program::read_references` meets its contract. The loop's invariant: what is left of the references is the whole.
-use Rattle.program.proofs.Laws.{references-got, references-stop, references-end}
+use Rattle.program.proofs.Alarms.{references-got, references-stop, references-end}
 use Rattle.program.specs.Answers.{endOf}
 use Rattle.program.specs.Program.{referencesAt}
-use Rattle.block.proofs.Answers.{typed-got, typed-fault}
+use Rattle.numbers.proofs.Answers.{typed-got, typed-fault}
 use borrow.Author.Needs.{needs}
 use native.Mathlib.Omega.{arith}
 use mathlib.Core.Path.{_≡_, refl, _∙_, sym}
@@ -10,10 +10,10 @@ use Rattle.program.proofs.read_references.Statement.{statement}
 use Rattle.program.proofs.read_references.Tie as tie
 
 abbrev Inv-loop : tie.InvT-loop
-Inv-loop s start n known at₀ left₀ at left = endOf (referencesAt known n s start) ≡ endOf (referencesAt known left s at)
+Inv-loop s start n marks at₀ left₀ at left = endOf (referencesAt marks n s start) ≡ endOf (referencesAt marks left s at)
 
 abbrev μ-loop : tie.MeasureT-loop
-μ-loop s start n known at₀ left₀ at left = left
+μ-loop s start n marks at₀ left₀ at left = left
 
 pub read-references-spec : {M : Type 1} → statement M
 read-references-spec =

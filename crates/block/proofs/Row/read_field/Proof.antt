@@ -1,6 +1,6 @@
 -- `block::Row::read_field` meets its contract: where the row ends, the number after the one before it.
 use Rattle.block.proofs.Rows.{before-place, more-refused, more-fault, more-got}
-use Rattle.block.proofs.Answers.{typed-got, typed-fault}
+use Rattle.numbers.proofs.Answers.{typed-got, typed-fault}
 use mathlib.Core.Logic.{⊎-elim}
 use mathlib.Core.Path.{refl, _∙_, sym}
 use borrow.Author.Needs.{needs}

@@ -1,0 +1,3 @@
+pub mod References
+pub mod Typed
+pub mod Answers

@@ -1,0 +1,43 @@
+-- `numbers::read_number` meets its contract: the number's answer, and then the two tests.
+use mathlib.Core.Path.{_∙_, sym}
+use borrow.Author.Needs.{needs}
+use Rattle.numbers.specs.Reading.{typedAt}
+use Rattle.numbers.proofs.References.{allowed-below}
+use Rattle.numbers.proofs.read_number.Statement.{statement}
+use Rattle.numbers.proofs.read_number.Tie as tie
+
+returns : tie.Need-returns
+unfolding typedAt
+returns c = rw (sym (c .before .before .before .before .before .before .before .number .ensures) ∙ c .before .before .before .before .before .n .given .1, sym (c .before .before .before .allow .ensures) ∙ c .before .before .if1 .taken, sym (c .before .is-marked .ensures) ∙ c .if2 .taken)
+
+returns-2 : tie.Need-returns-2
+unfolding typedAt
+returns-2 c = rw (sym (c .before .before .before .before .before .before .before .number .ensures) ∙ c .before .before .before .before .before .n .given .1, sym (c .before .before .before .allow .ensures) ∙ c .before .before .if1 .taken, sym (c .before .is-marked .ensures) ∙ c .if2 .left)
+
+returns-3 : tie.Need-returns-3
+unfolding typedAt
+returns-3 c = rw (sym (c .before .before .number .ensures) ∙ c .enum-told .given .1)
+
+returns-4 : tie.Need-returns-4
+unfolding typedAt
+returns-4 c = rw (sym (c .before .before .number .ensures) ∙ c .enum-told2 .given .1)
+
+returns-5 : tie.Need-returns-5
+unfolding typedAt
+returns-5 c = rw (sym (c .before .before .before .before .before .number .ensures) ∙ c .before .before .before .n .given .1, sym (c .before .allow .ensures) ∙ c .if1 .left)
+
+pub read-number-spec : {M : Type 1} → statement M
+read-number-spec =
+    tie.close
+    (tie.spec
+    (λ c κs. search needs)
+    (λ c. search needs)
+    (λ c. search needs)
+    (λ c. search needs)
+    (λ c. search needs)
+    (λ c κs. allowed-below _ (c .before .before .before .before .before .before .before .args .before) _ (sym (c .before .allow .ensures) ∙ c .if1 .taken))
+    returns
+    returns-2
+    returns-3
+    returns-4
+    returns-5)

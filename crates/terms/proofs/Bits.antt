@@ -1,0 +1,9 @@
+-- A bit in a byte, as casts make it. Assumes nothing.
+use mathlib.Core.Path.{_≡_, refl}
+use mathlib.Core.Bool.{Bool, true, false}
+use mir.Val.{boolByte}
+use Rattle.terms.specs.Bits.{digit}
+
+pub as-byte : (b : Bool) → boolByte b ≡ digit b
+as-byte true = refl
+as-byte false = refl

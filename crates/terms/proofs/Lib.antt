@@ -1,0 +1,6 @@
+pub mod Choice
+pub mod Every
+pub mod Sizes
+pub mod Table
+pub mod Words
+pub mod Bits

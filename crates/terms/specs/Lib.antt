@@ -1,0 +1,5 @@
+pub mod Choice
+pub mod Refusals
+pub mod Bits
+pub mod Words
+pub mod Lent
