@@ -1,2 +1,3 @@
-pub mod Signed
-pub mod Times
+pub mod Fields
+pub mod Words
+pub mod Agree

@@ -1,398 +1,177 @@
-// The rule of each kind of block: from the values at its pins and words, its settings, the elapsed ticks and its old place to
-// its new place. The last pins are stored by `pin`, for every kind but BL.
+// The rule of a block's kind, by the numbers of its fields: the values at its pins and words, its settings, the elapsed ticks.
+use place::Place;
 ghost use mathlib.Core.Path.{_≡_};
-ghost use Prim.Native.Nat.{_+_, _<_, _≤_};
-ghost use mathlib.Core.Bool.{not, _&&_};
-ghost use mathlib.Core.List.{[], _∷_};
-ghost use lib.IntN.{pos};
-ghost use lib.Signed.{leZ};
-ghost use Rattle.wire.specs.Choice.{pick};
-ghost use Rattle.rules.specs.Rules.{freshPlace, pinned, packed, firstWas, secondWas, rises, ticksIn, holdWord, same};
-ghost use Rattle.rules.specs.Rules.{bl, sr, pl, al, dl, os, fl, cnWord, cn, udWord, ud, related, cp, scaled, og, zc, st};
+ghost use mathlib.Core.Bool.{true};
+ghost use Prim.Native.Nat.{_<_};
+ghost use Rattle.numbers.specs.Types.{kindCount, allowed, bitRef, wordRef, wordPin};
+ghost use Rattle.kinds.specs.Kinds.{typesOf};
+ghost use Rattle.expression.specs.Expression.{bitIn};
+ghost use Rattle.rules.specs.Rules.{ruled, wordIn};
+ghost use Rattle.rules.specs.Rows.{allAllowed, rowBlock};
 
-// What is kept of a block from scan to scan.
-pub struct Place {
-    pub pins: u8,
-    pub out: bool,
-    pub ticks: u32,
-    pub word: i16,
-}
-
-impl Place {
-    // A place as it is in a fresh state.
-    pub fn fresh() -> Place
-        ensures { λ r. ⌜ r ≡ freshPlace ⌝ }
-    {
-        Place {
-            pins: 0,
-            out: false,
-            ticks: 0,
-            word: 0,
-        }
-    }
-
-    // The place with these last pins.
-    pub fn pin(self, n: u8) -> Place
-        ensures { λ r. ⌜ r ≡ pinned n self ⌝ }
-    {
-        let mut q = self;
-        q.pins = n;
-        q
-    }
-}
-
-// Up to four pins in field order, first lowest.
-pub fn pack(a: bool, b: bool, c: bool, d: bool) -> u8
-    ensures { λ r. ⌜ r ≡ packed (a ∷ b ∷ c ∷ d ∷ []) ⌝ }
+// The value at a bit reference.
+fn bit(bits: &[bool; 234], r: u32) -> bool
+    requires { ⌜ r < 234 ⌝ }
+    ensures { λ b. ⌜ b ≡ bitIn (now (bits .entry)) (bitRef r) ⌝ }
 {
-    (a as u8) + 2 * ((b as u8) + 2 * ((c as u8) + 2 * (d as u8)))
+    let k = r as usize;
+    bits[k]
 }
 
-// On now and off in the last pins.
-fn rise(is_on: bool, was_on: bool) -> bool
-    ensures { λ r. ⌜ r ≡ rises «is_on» «was_on» ⌝ }
+// The value at a word reference.
+fn word(words: &[i16; 208], r: u32) -> i16
+    requires { ⌜ allowed wordPin 0 r ≡ true ⌝ }
+    ensures { λ w. ⌜ w ≡ wordIn (now (words .entry)) (wordRef r) ⌝ }
 {
-    if is_on { !was_on } else { false }
+    if r < 208 {
+        let k = r as usize;
+        return words[k];
+    }
+    ((r as i32) - 33768) as i16
 }
 
-// The first of the last pins.
-fn first_was(p: Place) -> bool
-    ensures { λ r. ⌜ r ≡ firstWas p ⌝ }
+fn turn_sr(f: [u32; 5], p: Place, bits: &[bool; 234], words: &[i16; 208], e: u16) -> Place
+    requires { ⌜ allAllowed (typesOf 1) 0 0 f ≡ true ⌝ }
+    ensures { λ q. ⌜ q ≡ ruled (bitIn (now (bits .entry))) (wordIn (now (words .entry))) e (rowBlock 1 f) p ⌝ }
 {
-    p.pins % 2 == 1
+    let s = bit(bits, f[0]);
+    let r = bit(bits, f[1]);
+    switches::sr(s, r, f[2], p).pin(place::pack(s, r, false, false))
 }
 
-// The second of the last pins.
-fn second_was(p: Place) -> bool
-    ensures { λ r. ⌜ r ≡ secondWas p ⌝ }
+fn turn_pl(f: [u32; 5], p: Place, bits: &[bool; 234], words: &[i16; 208], e: u16) -> Place
+    requires { ⌜ allAllowed (typesOf 2) 0 0 f ≡ true ⌝ }
+    ensures { λ q. ⌜ q ≡ ruled (bitIn (now (bits .entry))) (wordIn (now (words .entry))) e (rowBlock 2 f) p ⌝ }
 {
-    p.pins / 2 % 2 == 1
+    let i = bit(bits, f[0]);
+    switches::pl(i, f[1], p).pin(place::pack(i, false, false, false))
 }
 
-// A time in ticks.
-fn ticks_in(unit: u32, time: u32) -> u64
-    ensures { λ r. ⌜ r ≡ ticksIn unit time ⌝ }
+fn turn_al(f: [u32; 5], p: Place, bits: &[bool; 234], words: &[i16; 208], e: u16) -> Place
+    requires { ⌜ allAllowed (typesOf 3) 0 0 f ≡ true ⌝ }
+    ensures { λ q. ⌜ q ≡ ruled (bitIn (now (bits .entry))) (wordIn (now (words .entry))) e (rowBlock 3 f) p ⌝ }
 {
-    if unit == 0 {
-        return time as u64;
-    }
-    if unit == 1 {
-        return (time as u64) * 10;
-    }
-    (time as u64) * 100
+    let i = bit(bits, f[0]);
+    let c = bit(bits, f[1]);
+    switches::al(i, c, p).pin(place::pack(i, c, false, false))
 }
 
-// Held to the range of a word.
-fn hold(z: i32) -> i16
-    ensures { λ r. ⌜ r ≡ holdWord z ⌝ }
+fn turn_dl(f: [u32; 5], p: Place, bits: &[bool; 234], words: &[i16; 208], e: u16) -> Place
+    requires { ⌜ allAllowed (typesOf 4) 0 0 f ≡ true ⌝ }
+    ensures { λ q. ⌜ q ≡ ruled (bitIn (now (bits .entry))) (wordIn (now (words .entry))) e (rowBlock 4 f) p ⌝ }
 {
-    if z < -32768 {
-        return -32768;
-    }
-    if 32767 < z {
-        return 32767;
-    }
-    z as i16
+    let i = bit(bits, f[0]);
+    let c = bit(bits, f[1]);
+    timers::dl(i, c, f[2], f[3], f[4], e, p).pin(place::pack(i, c, false, false))
 }
 
-// Whether holding to the range of a word changes it.
-fn held(z: i32) -> bool
-    ensures { λ r. ⌜ r ≡ not (same (holdWord z) z) ⌝ }
+fn turn_os(f: [u32; 5], p: Place, bits: &[bool; 234], words: &[i16; 208], e: u16) -> Place
+    requires { ⌜ allAllowed (typesOf 5) 0 0 f ≡ true ⌝ }
+    ensures { λ q. ⌜ q ≡ ruled (bitIn (now (bits .entry))) (wordIn (now (words .entry))) e (rowBlock 5 f) p ⌝ }
 {
-    if z < -32768 {
-        return true;
-    }
-    32767 < z
+    let i = bit(bits, f[0]);
+    let c = bit(bits, f[1]);
+    timers::os(i, c, f[2], f[3], e, p).pin(place::pack(i, c, false, false))
 }
 
-// Whether two words are the same.
-fn equal(a: i16, b: i16) -> bool
-    ensures { λ r. ⌜ r ≡ same a b ⌝ }
+fn turn_fl(f: [u32; 5], p: Place, bits: &[bool; 234], words: &[i16; 208], e: u16) -> Place
+    requires { ⌜ allAllowed (typesOf 6) 0 0 f ≡ true ⌝ }
+    ensures { λ q. ⌜ q ≡ ruled (bitIn (now (bits .entry))) (wordIn (now (words .entry))) e (rowBlock 6 f) p ⌝ }
 {
-    if a <= b { b <= a } else { false }
+    let i = bit(bits, f[0]);
+    timers::fl(i, f[1], f[2], f[3], e, p).pin(place::pack(i, false, false, false))
 }
 
-pub fn bl(value: bool, p: Place) -> Place
-    ensures { λ q. ⌜ q ≡ bl value p ⌝ }
+fn turn_cn(f: [u32; 5], p: Place, bits: &[bool; 234], words: &[i16; 208], e: u16) -> Place
+    requires { ⌜ allAllowed (typesOf 7) 0 0 f ≡ true ⌝ }
+    ensures { λ q. ⌜ q ≡ ruled (bitIn (now (bits .entry))) (wordIn (now (words .entry))) e (rowBlock 7 f) p ⌝ }
 {
-    let mut q = p;
-    q.out = value;
-    q
+    let i = bit(bits, f[0]);
+    let c = bit(bits, f[1]);
+    let preset = f[2] as i16;
+    counters::cn(i, c, preset, p).pin(place::pack(i, c, false, false))
 }
 
-pub fn sr(s: bool, r: bool, priority: u32, p: Place) -> Place
-    ensures { λ q. ⌜ q ≡ sr s r priority p ⌝ }
+fn turn_ud(f: [u32; 5], p: Place, bits: &[bool; 234], words: &[i16; 208], e: u16) -> Place
+    requires { ⌜ allAllowed (typesOf 8) 0 0 f ≡ true ⌝ }
+    ensures { λ q. ⌜ q ≡ ruled (bitIn (now (bits .entry))) (wordIn (now (words .entry))) e (rowBlock 8 f) p ⌝ }
 {
-    let mut q = p;
-    if s {
-        if r {
-            q.out = priority == 1;
-            return q;
-        }
-        q.out = true;
-        return q;
-    }
-    if r {
-        q.out = false;
-    }
-    q
+    let u = bit(bits, f[0]);
+    let d = bit(bits, f[1]);
+    let set = bit(bits, f[2]);
+    let c = bit(bits, f[3]);
+    let preset = terms::signed(f[4] as u16);
+    counters::ud(u, d, set, c, preset, p).pin(place::pack(u, d, set, c))
 }
 
-pub fn pl(i: bool, mode: u32, p: Place) -> Place
-    ensures { λ q. ⌜ q ≡ pl i mode p ⌝ }
+fn turn_cp(f: [u32; 5], p: Place, bits: &[bool; 234], words: &[i16; 208], e: u16) -> Place
+    requires { ⌜ allAllowed (typesOf 9) 0 0 f ≡ true ⌝ }
+    ensures { λ q. ⌜ q ≡ ruled (bitIn (now (bits .entry))) (wordIn (now (words .entry))) e (rowBlock 9 f) p ⌝ }
 {
-    let was = first_was(p);
-    let mut q = p;
-    if mode == 0 {
-        q.out = rise(i, was);
-        return q;
-    }
-    q.out = rise(was, i);
-    q
+    let i = bit(bits, f[0]);
+    let a = word(words, f[2]);
+    let b = word(words, f[3]);
+    analog::cp(i, f[1], a, b, p).pin(place::pack(i, false, false, false))
 }
 
-pub fn al(i: bool, c: bool, p: Place) -> Place
-    ensures { λ q. ⌜ q ≡ al i c p ⌝ }
+fn turn_og(f: [u32; 5], p: Place, bits: &[bool; 234], words: &[i16; 208], e: u16) -> Place
+    requires { ⌜ allAllowed (typesOf 10) 0 0 f ≡ true ⌝ }
+    ensures { λ q. ⌜ q ≡ ruled (bitIn (now (bits .entry))) (wordIn (now (words .entry))) e (rowBlock 10 f) p ⌝ }
 {
-    let mut q = p;
-    if c {
-        q.out = false;
-        return q;
-    }
-    if rise(i, first_was(p)) {
-        q.out = !p.out;
-    }
-    q
+    let i = bit(bits, f[0]);
+    let a = terms::signed(f[1] as u16);
+    let b = terms::signed(f[2] as u16);
+    let c = terms::signed(f[3] as u16);
+    let x = word(words, f[4]);
+    analog::og(i, a, b, c, x, p).pin(place::pack(i, false, false, false))
 }
 
-// The on time or the off time.
-fn time_of(i: bool, on: u32, off: u32) -> u32
-    ensures { λ r. ⌜ r ≡ pick i on off ⌝ }
+fn turn_zc(f: [u32; 5], p: Place, bits: &[bool; 234], words: &[i16; 208], e: u16) -> Place
+    requires { ⌜ allAllowed (typesOf 11) 0 0 f ≡ true ⌝ }
+    ensures { λ q. ⌜ q ≡ ruled (bitIn (now (bits .entry))) (wordIn (now (words .entry))) e (rowBlock 11 f) p ⌝ }
 {
-    if i { on } else { off }
+    let i = bit(bits, f[0]);
+    let l = word(words, f[2]);
+    let x = word(words, f[3]);
+    let h = word(words, f[4]);
+    analog::zc(i, f[1], l, x, h, p).pin(place::pack(i, false, false, false))
 }
 
-pub fn dl(i: bool, c: bool, unit: u32, on: u32, off: u32, e: u16, p: Place) -> Place
-    requires { ⌜ (on ≤ 32767) × (off ≤ 32767) ⌝ }
-    ensures { λ q. ⌜ q ≡ dl i c unit on off e p ⌝ }
+fn turn_st(f: [u32; 5], p: Place, bits: &[bool; 234], words: &[i16; 208], e: u16) -> Place
+    requires { ⌜ allAllowed (typesOf 12) 0 0 f ≡ true ⌝ }
+    ensures { λ q. ⌜ q ≡ ruled (bitIn (now (bits .entry))) (wordIn (now (words .entry))) e (rowBlock 12 f) p ⌝ }
 {
-    let mut q = p;
-    if c {
-        q.out = false;
-        q.ticks = 0;
-        return q;
-    }
-    if i == p.out {
-        q.ticks = 0;
-        return q;
-    }
-    let t = (p.ticks as u64) + (e as u64);
-    if ticks_in(unit, time_of(i, on, off)) <= t {
-        q.out = i;
-        q.ticks = 0;
-        return q;
-    }
-    q.ticks = t as u32;
-    q
+    let i = bit(bits, f[0]);
+    let x = word(words, f[1]);
+    let h = word(words, f[2]);
+    let l = word(words, f[3]);
+    analog::st(i, x, h, l, p).pin(place::pack(i, false, false, false))
 }
 
-pub fn os(i: bool, c: bool, unit: u32, time: u32, e: u16, p: Place) -> Place
-    requires { ⌜ time ≤ 32767 ⌝ }
-    ensures { λ q. ⌜ q ≡ os i c unit time e p ⌝ }
+// The new place of a block of any kind but BL, by the numbers of its fields.
+pub fn apply(
+    kind: u8,
+    f: [u32; 5],
+    p: Place,
+    bits: &[bool; 234],
+    words: &[i16; 208],
+    e: u16,
+) -> Place
+    requires { ⌜ (kind < kindCount) × (allAllowed (typesOf kind) 0 0 f ≡ true) ⌝ }
+    ensures { λ q. ⌜ q ≡ ruled (bitIn (now (bits .entry))) (wordIn (now (words .entry))) e (rowBlock kind f) p ⌝ }
 {
-    let mut q = p;
-    if c {
-        q.out = false;
-        q.ticks = 0;
-        return q;
+    match kind {
+        1 => turn_sr(f, p, bits, words, e),
+        2 => turn_pl(f, p, bits, words, e),
+        3 => turn_al(f, p, bits, words, e),
+        4 => turn_dl(f, p, bits, words, e),
+        5 => turn_os(f, p, bits, words, e),
+        6 => turn_fl(f, p, bits, words, e),
+        7 => turn_cn(f, p, bits, words, e),
+        8 => turn_ud(f, p, bits, words, e),
+        9 => turn_cp(f, p, bits, words, e),
+        10 => turn_og(f, p, bits, words, e),
+        11 => turn_zc(f, p, bits, words, e),
+        _ => turn_st(f, p, bits, words, e),
     }
-    if !p.out {
-        q.out = rise(i, first_was(p));
-        q.ticks = 0;
-        return q;
-    }
-    let t = (p.ticks as u64) + (e as u64);
-    if ticks_in(unit, time) <= t {
-        q.out = false;
-        q.ticks = 0;
-        return q;
-    }
-    q.ticks = t as u32;
-    q
-}
-
-pub fn fl(i: bool, unit: u32, on: u32, off: u32, e: u16, p: Place) -> Place
-    requires { ⌜ (on ≤ 32767) × ((off ≤ 32767) × (0 < on + off)) ⌝ }
-    ensures { λ q. ⌜ q ≡ fl i unit on off e p ⌝ }
-{
-    let mut q = p;
-    if !i {
-        q.out = false;
-        q.ticks = 0;
-        return q;
-    }
-    let on_ticks = ticks_in(unit, on);
-    if rise(i, first_was(p)) {
-        q.out = 0 < on_ticks;
-        q.ticks = 0;
-        return q;
-    }
-    let period = on_ticks + ticks_in(unit, off);
-    let t = ((p.ticks as u64) + (e as u64)) % period;
-    q.out = t < on_ticks;
-    q.ticks = t as u32;
-    q
-}
-
-// The word of CN.
-fn cn_word(i: bool, c: bool, p: Place) -> i16
-    ensures { λ r. ⌜ r ≡ cnWord i c p ⌝ }
-{
-    if c {
-        return 0;
-    }
-    if rise(i, first_was(p)) {
-        return hold((p.word as i32) + 1);
-    }
-    p.word
-}
-
-pub fn cn(i: bool, c: bool, preset: i16, p: Place) -> Place
-    ensures { λ q. ⌜ q ≡ cn i c preset p ⌝ }
-{
-    let w = cn_word(i, c, p);
-    let mut q = p;
-    q.out = preset <= w;
-    q.word = w;
-    q
-}
-
-// The word of UD.
-fn ud_word(u: bool, d: bool, set: bool, c: bool, preset: i16, p: Place) -> i16
-    ensures { λ r. ⌜ r ≡ udWord u d set c preset p ⌝ }
-{
-    if c {
-        return 0;
-    }
-    if set {
-        return preset;
-    }
-    let up = rise(u, first_was(p));
-    let down = rise(d, second_was(p));
-    if up == down {
-        return p.word;
-    }
-    if up {
-        return hold((p.word as i32) + 1);
-    }
-    hold((p.word as i32) + -1)
-}
-
-pub fn ud(u: bool, d: bool, set: bool, c: bool, preset: i16, p: Place) -> Place
-    ensures { λ q. ⌜ q ≡ ud u d set c preset p ⌝ }
-{
-    let w = ud_word(u, d, set, c, preset, p);
-    let mut q = p;
-    q.out = preset <= w;
-    q.word = w;
-    q
-}
-
-// A (relation) B.
-fn relates(relation: u32, a: i16, b: i16) -> bool
-    ensures { λ r. ⌜ r ≡ related relation a b ⌝ }
-{
-    if relation == 0 {
-        return equal(a, b);
-    }
-    if relation == 1 {
-        return b < a;
-    }
-    if relation == 2 {
-        return b <= a;
-    }
-    if relation == 3 {
-        return a < b;
-    }
-    if relation == 4 {
-        return a <= b;
-    }
-    !equal(a, b)
-}
-
-pub fn cp(i: bool, relation: u32, a: i16, b: i16, p: Place) -> Place
-    ensures { λ q. ⌜ q ≡ cp i relation a b p ⌝ }
-{
-    let mut q = p;
-    if i {
-        q.out = relates(relation, a, b);
-        return q;
-    }
-    q.out = false;
-    q
-}
-
-// A times X divided by B, cut toward zero, plus C.
-fn scale(a: i16, x: i16, b: i16, c: i16) -> i32
-    requires { ⌜ (b ≡ pos 0 → ⊥) ⌝ }
-    ensures { λ r. ⌜ r ≡ scaled a x b c ⌝ }
-{
-    let product = (a as i32) * (x as i32);
-    let quotient = product / (b as i32);
-    quotient + (c as i32)
-}
-
-pub fn og(i: bool, a: i16, b: i16, c: i16, x: i16, p: Place) -> Place
-    requires { ⌜ (b ≡ pos 0 → ⊥) ⌝ }
-    ensures { λ q. ⌜ q ≡ og i a b c x p ⌝ }
-{
-    let mut q = p;
-    if !i {
-        q.out = false;
-        return q;
-    }
-    let z = scale(a, x, b, c);
-    q.out = held(z);
-    q.word = hold(z);
-    q
-}
-
-// L ≤ X ≤ H.
-fn inside(l: i16, x: i16, h: i16) -> bool
-    ensures { λ r. ⌜ r ≡ (leZ l x && leZ x h) ⌝ }
-{
-    if l <= x { x <= h } else { false }
-}
-
-pub fn zc(i: bool, mode: u32, l: i16, x: i16, h: i16, p: Place) -> Place
-    ensures { λ q. ⌜ q ≡ zc i mode l x h p ⌝ }
-{
-    let mut q = p;
-    if !i {
-        q.out = false;
-        return q;
-    }
-    if mode == 0 {
-        q.out = inside(l, x, h);
-        return q;
-    }
-    q.out = !inside(l, x, h);
-    q
-}
-
-pub fn st(i: bool, x: i16, h: i16, l: i16, p: Place) -> Place
-    ensures { λ q. ⌜ q ≡ st i x h l p ⌝ }
-{
-    let mut q = p;
-    if !i {
-        return q;
-    }
-    if h <= x {
-        q.out = true;
-        return q;
-    }
-    if x < l {
-        q.out = false;
-    }
-    q
 }

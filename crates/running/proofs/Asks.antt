@@ -7,13 +7,14 @@ use native.Mathlib.Omega.{arith}
 use lib.Dec.{T, eqb, leb}
 use lib.ListN.{getD, set}
 use borrow.Author.Tests.{eq-eqb, ne-eqb, lt-leb}
-use Rattle.wire.proofs.Choice.{pick-case}
-use Rattle.block.specs.Blocks.{Word, analog, wordOf, constant, Content, word}
-use Rattle.block.specs.Kinds.{pin, wordPin, wordRef, contentOf, Kind, kind, kinds, kindOf, typesOf}
+use Rattle.terms.proofs.Choice.{pick-case}
+use Rattle.numbers.specs.Blocks.{Word, analog, wordOf, constant, Content, word}
+use Rattle.numbers.specs.Types.{pin, wordPin, wordRef, contentOf}
+use Rattle.kinds.specs.Kinds.{Kind, kind, kinds, kindOf, typesOf}
 use Rattle.block.specs.Asking.{asking}
-use Rattle.block.proofs.References.{word-cases}
-use Rattle.block.proofs.Table.{both-left, both-right, at}
-use Rattle.running.specs.Answers.{contents}
+use Rattle.numbers.proofs.References.{word-cases}
+use Rattle.terms.proofs.Table.{both-left, both-right, at}
+use Rattle.rules.specs.Rows.{contents}
 
 -- a word reference by the range of its number
 pub asks-block : (l : List ℕ) (r : ℕ) → 8 ≤ r → r < 208 → set l (r - 8) 1 ≡ asking (word (wordRef r) ∷ []) l

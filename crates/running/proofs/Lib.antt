@@ -1,5 +1,3 @@
-pub mod Fields
-pub mod Words
 pub mod Rows
-pub mod Turns
+pub mod Turning
 pub mod Asks

@@ -9,20 +9,23 @@ use lib.Dec.{eqb}
 use lib.ListN.{length, getD, drop, replicate, length-map, length-replicate, List·getD-append}
 use lib.Seq.{sets, sets-eq}
 use borrow.Author.Tests.{ne-eqb}
-use Rattle.wire.proofs.Choice.{pick-case}
-use Rattle.block.specs.Blocks.{Bit, Content, nodesIn, codeOf}
-use Rattle.block.specs.Kinds.{typesOf, expression, nothing, pin, wordPin, allowed, contentOf, settingOf}
-use Rattle.block.specs.Reading.{Read, got, fault, andThen, Known, typedAt, contentAt, fieldsAt}
-use Rattle.block.proofs.References.{content-code, content-nodes}
-use Rattle.block.proofs.KindTable.{types-few, type-plain}
-use Rattle.block.proofs.Expressions.{typed-allowed}
+use Rattle.terms.proofs.Choice.{pick-case}
+use Rattle.numbers.specs.Blocks.{Bit, Content, nodesIn, codeOf}
+use Rattle.kinds.specs.Kinds.{typesOf, expression, nothing}
+use Rattle.numbers.specs.Types.{pin, wordPin, allowed, contentOf, settingOf}
+use Rattle.wire.specs.Reading.{Read, got, fault, andThen}
+use Rattle.numbers.specs.Reading.{Marks, typedAt}
+use Rattle.block.specs.Reading.{contentAt, fieldsAt}
+use Rattle.numbers.proofs.References.{content-code, content-nodes}
+use Rattle.kinds.proofs.KindTable.{types-few, type-plain}
+use Rattle.numbers.proofs.Typed.{typed-allowed}
 use Rattle.block.proofs.Rows.{row-stopped}
-use Rattle.block.proofs.Gives.{Long, gives-after, long-cons}
+use Rattle.wire.proofs.Gives.{Long, gives-after, long-cons}
 use Rattle.block.specs.Answers.{rowOf}
 use Rattle.block.specs.declared.Row.{Row}
 use Rattle.block.specs.declared.End.the-variants.{Next, Fault as EndFault}
-use Rattle.running.specs.Running.{stepsOf}
-use Rattle.running.specs.Answers.{allAllowed, contents}
+use Rattle.rules.specs.Rules.{stepsOf}
+use Rattle.rules.specs.Rows.{allAllowed, contents}
 
 -- no type of a list is an expression
 pub data Plain : List ℕ → Type 0 where
@@ -50,7 +53,7 @@ step-one f ty v cs =
     pick-case (λ c. stepsOf f (c ∷ cs) ≡ 1) (eqb ty pin) (λ _. refl)
     (λ _. pick-case (λ c. stepsOf f (c ∷ cs) ≡ 1) (eqb ty wordPin) (λ _. refl) (λ _. refl))
 
-module _ (k : Known) (s : List ℕ) (l : List ℕ) where
+module _ (k : Marks) (s : List ℕ) (l : List ℕ) where
   row : {ts : List ℕ} → Plain ts → (i before at : ℕ) (cs : List Content) {next : ℕ} → fieldsAt k ts before s at ≡ got cs next → Held i l cs
       → Said ts i before l cs
   unfolding fieldsAt contentAt allAllowed contents
@@ -80,14 +83,14 @@ module _ (k : Known) (s : List ℕ) (l : List ℕ) where
       field again (fault x y) t e = let z : _≡_ {A = ℕ} 0 1 = cc in absurd (omega arith)
 
 -- as many contents are read as there are types
-long : (k : Known) (ts : List ℕ) (before : ℕ) (s : List ℕ) (at : ℕ) → Long (length ts) (fieldsAt k ts before s at)
+long : (k : Marks) (ts : List ℕ) (before : ℕ) (s : List ℕ) (at : ℕ) → Long (length ts) (fieldsAt k ts before s at)
 unfolding fieldsAt
 long k [] before s at = refl
 long k (ty ∷ ts) before s at =
     gives-after (λ cs. length cs ≡ suc (length ts)) (contentAt k ty before s at) _
     (λ c m. long-cons (length ts) c (fieldsAt k ts (settingOf c) s m) (long k ts (settingOf c) s m))
 
-fields-long : (k : Known) (ts : List ℕ) (before : ℕ) (s : List ℕ) (at : ℕ) {cs : List Content} {next : ℕ} → fieldsAt k ts before s at ≡ got cs next → length cs ≡ length ts
+fields-long : (k : Marks) (ts : List ℕ) (before : ℕ) (s : List ℕ) (at : ℕ) {cs : List Content} {next : ℕ} → fieldsAt k ts before s at ≡ got cs next → length cs ≡ length ts
 fields-long k ts before s at e = subst (Long (length ts)) e (long k ts before s at)
 
 -- five places hold the numbers that are stored in them
@@ -113,14 +116,14 @@ stored-held cs h =
 
 -- what was read of a row without an expression, by its own numbers
 pub said :
-    (k : Known) (kind : ℕ) → kind < 13 → 0 < kind → (s : List ℕ) (at : ℕ) {cs : List Content} {next : ℕ} → fieldsAt k (typesOf kind) 0 s at ≡ got cs next →
+    (k : Marks) (kind : ℕ) → kind < 13 → 0 < kind → (s : List ℕ) (at : ℕ) {cs : List Content} {next : ℕ} → fieldsAt k (typesOf kind) 0 s at ≡ got cs next →
     Said (typesOf kind) 0 0 (map codeOf cs) cs
 said k kind lt ne s at {cs} e =
     row k s (map codeOf cs) (plain-by (typesOf kind) (type-plain kind lt ne)) 0 0 at cs e
     (held-by cs 0 (map codeOf cs) (λ j p. let z : 0 + j ≡ j = omega arith in rw z))
 
 -- the row of a block that is no BL, as it was read
-module _ (k : Known) (kind : ℕ) (lt : kind < 13) (ne : 0 < kind) (s : List ℕ) (at : ℕ) (r : Row) (e : r ≡ rowOf (fieldsAt k (typesOf kind) 0 s at)) where
+module _ (k : Marks) (kind : ℕ) (lt : kind < 13) (ne : 0 < kind) (s : List ℕ) (at : ℕ) (r : Row) (e : r ≡ rowOf (fieldsAt k (typesOf kind) 0 s at)) where
   pub record Ran (next : ℕ) : Type 0 where
     pub allow : allAllowed (typesOf kind) 0 0 (r .fields) ≡ true
     pub read : fieldsAt k (typesOf kind) 0 s at ≡ got (contents (typesOf kind) 0 (r .fields)) next

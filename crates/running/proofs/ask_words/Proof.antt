@@ -1,6 +1,7 @@
 -- `running::ask_words` meets its contract: the word references of each kind that has any, one after the other.
-use Rattle.block.specs.Kinds.{wordRef, contentOf, kindOf}
-use Rattle.running.specs.Answers.{contents}
+use Rattle.numbers.specs.Types.{wordRef, contentOf}
+use Rattle.kinds.specs.Kinds.{kindOf}
+use Rattle.rules.specs.Rows.{contents}
 use Rattle.running.proofs.Asks.{asks-two, asks-three}
 use lib.ListN.{getD}
 use native.Mathlib.Omega.{arith}

@@ -1,8 +1,8 @@
 -- `running::turn` meets its contract: by the block's kind.
-use Rattle.running.specs.Running.{wordIn}
-use Rattle.running.proofs.Turns.{turn-of, turn-none, asked-bl, asked-of, asked-none}
-use Rattle.block.proofs.Expressions.{typed-below}
-use Rattle.block.proofs.Answers.{typed-got, typed-fault}
+use Rattle.rules.specs.Rules.{wordIn}
+use Rattle.running.proofs.Turning.{turn-of, turn-none, asked-bl, asked-of, asked-none}
+use Rattle.numbers.proofs.Typed.{typed-below}
+use Rattle.numbers.proofs.Answers.{typed-got, typed-fault}
 use native.Mathlib.Omega.{arith}
 use mathlib.Core.Path.{_∙_, sym}
 use borrow.Author.Needs.{needs}

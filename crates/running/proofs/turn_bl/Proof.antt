@@ -1,6 +1,6 @@
 -- `running::turn_bl` meets its contract: the expression's value, steps and nodes.
-use Rattle.running.proofs.Turns.{bl-done, bl-broken, bl-left}
-use Rattle.block.proofs.KindTable.{memory-light}
+use Rattle.running.proofs.Turning.{bl-done, bl-broken, bl-left}
+use Rattle.kinds.proofs.KindTable.{memory-light}
 use native.Mathlib.Omega.{arith}
 use mathlib.Core.Path.{_∙_, sym}
 use borrow.Author.Needs.{needs}

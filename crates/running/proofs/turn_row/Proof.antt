@@ -1,9 +1,9 @@
 -- `running::turn_row` meets its contract: the row's numbers are allowed where they stand, and say what was read.
 use Rattle.running.proofs.Rows.{ran, lost}
 use Rattle.running.proofs.Asks.{low-asks}
-use Rattle.running.specs.Answers.{contents}
+use Rattle.rules.specs.Rows.{contents}
 use Rattle.block.specs.Asking.{asking}
-use Rattle.block.specs.Kinds.{typesOf}
+use Rattle.kinds.specs.Kinds.{typesOf}
 use Rattle.expression.specs.Expression.{bitIn}
 use mathlib.Core.Path.{_≡_, _∙_}
 use mathlib.Core.Logic.{⊎-elim}
@@ -19,7 +19,7 @@ asked c = ⊎-elim (λ w. w .3 ∙ w .2 .ensures) (λ w. w .1 ∙ low-asks _ (w 
 returns-2 : tie.Need-returns-2
 returns-2 c =
     let r = ran _ _ (c .before .before .before .before .before .before .before .before .before .before .pre .0) (c .before .before .before .before .before .before .before .before .before .before .pre .1) _ _ _ (c .before .before .before .before .before .before .before .before .read-row .ensures) (c .before .before .before .before .before .end2 .given .1) in (
-      rw (r .read, c .before .before .run .ensures, c .before .memory-of .ensures, c .mark-of .ensures, r .one (bitIn (c .before .before .before .before .before .before .before .before .before .before .args .bits .now)), r .bare, add-zero),
+      rw (r .read, c .before .before .apply .ensures, c .before .memory-of .ensures, c .mark-of .ensures, r .one (bitIn (c .before .before .before .before .before .before .before .before .before .before .args .bits .now)), r .bare, add-zero),
       rw (r .read) (asked (c .before .before .before)),
     )
 

@@ -1,0 +1,7 @@
+-- `Place::second_rises` meets its contract, by its test.
+use borrow.Author.Needs.{needs}
+use Rattle.place.proofs.Place.second_rises.Statement.{statement}
+use Rattle.place.proofs.Place.second_rises.Tie as tie
+
+pub second-rises-spec : {M : Type 1} → statement M
+second-rises-spec = tie.close (tie.spec (λ c. rw (c .before .if1 .taken)) (λ c. search needs))

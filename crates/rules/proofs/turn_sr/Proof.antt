@@ -1,0 +1,25 @@
+-- `rules::turn_sr` meets its contract: the letters of SR at its fields.
+use lib.Dec.{lit<}
+use borrow.Author.Needs.{needs}
+use Rattle.numbers.specs.Types.{contentOf}
+use Rattle.kinds.specs.Kinds.{kindOf, typesOf}
+use Rattle.rules.specs.Rules.{ruleOf, ruled}
+use Rattle.rules.specs.Rows.{contents}
+use Rattle.rules.proofs.Fields.{below}
+use Rattle.rules.proofs.turn_sr.Statement.{statement}
+use Rattle.rules.proofs.turn_sr.Tie as tie
+
+pub turn-sr-spec : {M : Type 1} → statement M
+unfolding contentOf contents kindOf ruleOf ruled
+turn-sr-spec =
+    tie.close
+    (tie.spec
+    (λ c. search needs)
+    (λ c κs. below (typesOf 1) _ (c .pre) 0 (lit< tt))
+    (λ c. search needs)
+    (λ c κs. below (typesOf 1) _ (c .before .pre) 1 (lit< tt))
+    (λ c. search needs)
+    (λ c κs. search needs)
+    (λ c κs. search needs)
+    (λ c κs. search needs)
+    (λ c. rw (c .pin .ensures, c .before .pack .ensures, c .before .before .sr .ensures, c .before .before .before .bit2 .ensures, c .before .before .before .before .bit .ensures)))

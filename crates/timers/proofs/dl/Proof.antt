@@ -1,0 +1,44 @@
+-- `timers::dl` meets its contract: each return is the definition under the tests that led there, and ticks that are kept are below a time.
+use Rattle.terms.proofs.Choice.{pick-case}
+use Prim.Native.Nat.{_≤_}
+use Rattle.timers.proofs.Times.{ticks-most}
+use native.Mathlib.Omega.{arith}
+use mathlib.Core.Path.{sym}
+use borrow.Author.Tests.{le-leb, lt-leb}
+use Rattle.timers.specs.Timers.{dl}
+use borrow.Author.Needs.{needs}
+use Rattle.timers.proofs.dl.Statement.{statement}
+use Rattle.timers.proofs.dl.Tie as tie
+
+returns : tie.Need-returns
+unfolding dl
+returns c = rw (c .if1 .taken)
+
+returns-2 : tie.Need-returns-2
+unfolding dl
+returns-2 c = rw (c .before .before .if1 .left, c .if2 .taken)
+
+returns-3 : tie.Need-returns-3
+unfolding dl
+returns-3 c = rw (c .before .before .before .before .before .before .if1 .left, c .before .before .before .before .if2 .left, sym (c .before .before .time-of .ensures), sym (c .before .ticks-in .ensures), le-leb _ _ (c .if3 .taken))
+
+returns-4 : tie.Need-returns-4
+unfolding dl
+returns-4 c = rw (c .before .before .before .before .before .before .if1 .left, c .before .before .before .before .if2 .left, sym (c .before .before .time-of .ensures), sym (c .before .ticks-in .ensures), lt-leb _ _ (c .if3 .left))
+
+pub dl-spec : {M : Type 1} → statement M
+dl-spec =
+    tie.close
+    (tie.spec
+    returns
+    returns-2
+    (λ c. search needs)
+    (λ c. search needs)
+    (λ c κs. search needs)
+    (λ c κs. search needs)
+    returns-3
+    (λ c.
+    let a = c .before .before .before .before .before .before .before .args in
+    let h = pick-case (λ n. n ≤ 32767) (a .i) {x = a .on} {y = a .off} (λ _. c .before .before .before .before .before .before .before .pre .0) (λ _. c .before .before .before .before .before .before .before .pre .1) in
+    omega (arith, h, c .before .before .time-of .ensures, ticks-most (a .unit) (c .before .before .time-of .result)))
+    returns-4)
