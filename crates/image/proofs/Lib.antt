@@ -1,4 +1,5 @@
 pub mod Listed
-pub mod Copies
-pub mod Within
-pub mod Turns
+pub mod Columns
+pub mod Walks
+pub mod Counts
+pub mod Images

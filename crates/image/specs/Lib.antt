@@ -1,1 +1,3 @@
+pub mod State
 pub mod Image
+pub mod Lent

@@ -1,0 +1,2 @@
+pub mod Splicing
+pub mod Inputs
