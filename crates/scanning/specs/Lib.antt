@@ -1,4 +1,3 @@
 pub mod Scan
-pub mod Arrays
-pub mod Trials
 pub mod Loading
+pub mod Run

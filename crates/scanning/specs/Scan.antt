@@ -1,20 +1,25 @@
 -- Document 01, "One scan".
 use mathlib.Core.Bool.{Bool, true, false}
-use mathlib.Core.List.{List, [], map}
+use mathlib.Core.List.{List, map}
 use Prim.Native.Nat.{ℕ, zero, suc, _+_}
 use lib.IntN.{ℤ, pos}
 use lib.ListN.{getD, set}
-use Rattle.block.specs.Blocks.{Bit, off, on, input, output, Word, analog, wordOf, constant, Block}
-use Rattle.rules.specs.declared.Place.{Place}
-use Rattle.rules.specs.Rules.{freshPlace, packed}
-use Rattle.running.specs.Running.{constantOf, ruled, stepsOf}
-use Rattle.journal.specs.Journal.{bitOf}
+use Rattle.numbers.specs.Blocks.{Bit, off, on, input, output, Word, analog, wordOf, constant, Block, blockOf}
+use Rattle.place.specs.declared.Place.{Place}
+use Rattle.place.specs.Places.{freshPlace}
+use Rattle.terms.specs.Bits.{packed, bitOf}
+use Rattle.terms.specs.Words.{constantOf}
+use Rattle.rules.specs.Rules.{ruled, stepsOf}
 
 -- "a 16-bit elapsed, one 32-bit number, an array of eight 16-bit words"
 pub record Inputs : Type 0 where
   pub elapsed : ℕ
   pub bits : ℕ
   pub words : List ℤ
+
+-- the same, from the parameters of a call
+abbrev pub inputs : ℕ → ℕ → List ℤ → Inputs
+inputs e bits words = record { elapsed = e; bits = bits; words = words }
 
 abbrev pub inputBit : Inputs → ℕ → Bool
 inputBit x i = bitOf (x .bits) i
@@ -33,9 +38,6 @@ abbrev pub readWord : Inputs → List Place → Word → ℤ
 readWord x ps (analog i) = getD (x .words) i (pos 0)
 readWord x ps (wordOf k) = placeOf ps k .word
 readWord x ps (constant n) = constantOf n
-
-abbrev pub blockOf : List Block → ℕ → Block
-blockOf bs i = getD bs i (record { kind = 0; fields = [] })
 
 -- "Blocks run in ascending number. A reference to a lower block reads this scan's output or word, to itself or a higher one the last scan's."
 -- The places after the first n blocks: block n then reads this scan's places below it, and the last scan's from itself on.

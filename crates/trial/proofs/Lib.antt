@@ -1,0 +1,3 @@
+pub mod AlarmWord
+pub mod FirstBlocks
+pub mod Parts

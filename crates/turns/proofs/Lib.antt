@@ -1,0 +1,4 @@
+pub mod Going
+pub mod Answering
+pub mod Figures
+pub mod Blocks
