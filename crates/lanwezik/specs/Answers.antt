@@ -1,9 +1,9 @@
 -- The answers of the calls as a C program reads them, and its inputs as document 01 has them: the same numbers in wider fields.
-use Rattle.image.specs.Image.{byteOf}
+use Rattle.terms.specs.Bits.{digit}
 use Rattle.program.specs.declared.Acceptance.{Acceptance as Accepted}
 use Rattle.scanning.specs.Scan.{Inputs as ScanInputs}
-use Rattle.hall.specs.declared.ScanAnswer.{ScanAnswer}
-use Rattle.hall.specs.declared.TakeAnswer.{TakeAnswer}
+use Rattle.calls.specs.declared.ScanAnswer.{ScanAnswer}
+use Rattle.calls.specs.declared.TakeAnswer.{TakeAnswer}
 use Rattle.lanwezik.specs.declared.Acceptance.{Acceptance}
 use Rattle.lanwezik.specs.declared.Inputs.{Inputs}
 use Rattle.lanwezik.specs.declared.Scanned.{Scanned}
@@ -20,4 +20,4 @@ scanned a = record { refusal = a .refusal; alarms = a .alarms; steps = a .steps;
 
 -- 1 if an entry was found, else 0
 abbrev pub given : TakeAnswer → Given
-given a = record { refusal = a .refusal; found = byteOf (a .found); number = a .entry .number; time = a .entry .stamp .time }
+given a = record { refusal = a .refusal; found = digit (a .found); number = a .entry .number; time = a .entry .stamp .time }

@@ -1,7 +1,10 @@
 // The controller's calls for programs in C: include/lanwezik.h has their declarations.
 ghost use mathlib.Core.Path.{_≡_};
 ghost use Rattle.program.specs.Acceptance.{accepted};
-ghost use Rattle.hall.specs.Images.{image, scannedIn, afterScan, takenIn, afterTake, freshedIn, afterFresh};
+ghost use Rattle.image.specs.Image.{imageOf};
+ghost use Rattle.image.specs.Lent.{before, after};
+ghost use Rattle.image.specs.State.{freshState};
+ghost use Rattle.calls.specs.InPlace.{scannedIn, afterScan, takenIn, afterTake};
 ghost use Rattle.lanwezik.specs.Answers.{acceptance, scanned, given, inputsOf};
 
 // Number of refusal and place, memory and step figure.
@@ -44,7 +47,7 @@ pub struct Given {
 pub extern "C" fn lanwezik_accept(program: &[u8]) -> Acceptance
     ensures { λ r. ⌜ r ≡ acceptance (accepted (now (program .entry))) ⌝ }
 {
-    let a = hall::accept(program);
+    let a = program::accept(program);
     Acceptance {
         refusal: a.refusal as u32,
         memory: a.memory,
@@ -55,37 +58,36 @@ pub extern "C" fn lanwezik_accept(program: &[u8]) -> Acceptance
 
 #[no_mangle]
 pub extern "C" fn lanwezik_fresh_in(
-    counts: &mut [u64],
-    times: &mut [u64],
-    numbers: &mut [u8],
-    ticks: &mut [u32],
-    words: &mut [i16],
-    pins: &mut [u8],
-    outputs: &mut [u8],
-) -> u32
-    ensures { λ r. ⌜ r ≡ freshedIn (image (now (counts .entry)) (now (times .entry)) (now (numbers .entry)) (now (ticks .entry)) (now (words .entry)) (now (pins .entry)) (now (outputs .entry))) ⌝ }
-    ensures after { λ r. ⌜ image (now (counts .exit)) (now (times .exit)) (now (numbers .exit)) (now (ticks .exit)) (now (words .exit)) (now (pins .exit)) (now (outputs .exit)) ≡ afterFresh (image (now (counts .entry)) (now (times .entry)) (now (numbers .entry)) (now (ticks .entry)) (now (words .entry)) (now (pins .entry)) (now (outputs .entry))) ⌝ }
+    counts: &mut [u64; 4],
+    times: &mut [u64; 32],
+    numbers: &mut [u8; 32],
+    ticks: &mut [u32; 200],
+    words: &mut [i16; 200],
+    pins: &mut [u8; 200],
+    outputs: &mut [u8; 200],
+)
+    ensures { λ _. ⌜ after counts times numbers ticks words pins outputs ≡ imageOf freshState ⌝ }
 {
-    hall::fresh_in(counts, times, numbers, ticks, words, pins, outputs) as u32
+    console::fresh_in(counts, times, numbers, ticks, words, pins, outputs);
 }
 
 #[no_mangle]
 pub extern "C" fn lanwezik_scan_in(
     program: &[u8],
-    counts: &mut [u64],
-    times: &mut [u64],
-    numbers: &mut [u8],
-    ticks: &mut [u32],
-    words: &mut [i16],
-    pins: &mut [u8],
-    outputs: &mut [u8],
+    counts: &mut [u64; 4],
+    times: &mut [u64; 32],
+    numbers: &mut [u8; 32],
+    ticks: &mut [u32; 200],
+    words: &mut [i16; 200],
+    pins: &mut [u8; 200],
+    outputs: &mut [u8; 200],
     inputs: Inputs,
 ) -> Scanned
-    ensures { λ r. ⌜ r ≡ scanned (scannedIn (now (program .entry)) (inputsOf inputs) (image (now (counts .entry)) (now (times .entry)) (now (numbers .entry)) (now (ticks .entry)) (now (words .entry)) (now (pins .entry)) (now (outputs .entry)))) ⌝ }
-    ensures after { λ r. ⌜ image (now (counts .exit)) (now (times .exit)) (now (numbers .exit)) (now (ticks .exit)) (now (words .exit)) (now (pins .exit)) (now (outputs .exit)) ≡ afterScan (now (program .entry)) (inputsOf inputs) (image (now (counts .entry)) (now (times .entry)) (now (numbers .entry)) (now (ticks .entry)) (now (words .entry)) (now (pins .entry)) (now (outputs .entry))) ⌝ }
+    ensures { λ r. ⌜ r ≡ scanned (scannedIn (now (program .entry)) (inputsOf inputs) (before counts times numbers ticks words pins outputs)) ⌝ }
+    ensures after { λ r. ⌜ after counts times numbers ticks words pins outputs ≡ afterScan (now (program .entry)) (inputsOf inputs) (before counts times numbers ticks words pins outputs) ⌝ }
 {
     let analogs = inputs.analogs;
-    let a = hall::scan_in(
+    let a = console::scan_in(
         program,
         counts,
         times,
@@ -109,18 +111,18 @@ pub extern "C" fn lanwezik_scan_in(
 
 #[no_mangle]
 pub extern "C" fn lanwezik_take_in(
-    counts: &mut [u64],
-    times: &mut [u64],
-    numbers: &mut [u8],
-    ticks: &mut [u32],
-    words: &mut [i16],
-    pins: &mut [u8],
-    outputs: &mut [u8],
+    counts: &mut [u64; 4],
+    times: &mut [u64; 32],
+    numbers: &mut [u8; 32],
+    ticks: &[u32; 200],
+    words: &[i16; 200],
+    pins: &[u8; 200],
+    outputs: &[u8; 200],
 ) -> Given
-    ensures { λ r. ⌜ r ≡ given (takenIn (image (now (counts .entry)) (now (times .entry)) (now (numbers .entry)) (now (ticks .entry)) (now (words .entry)) (now (pins .entry)) (now (outputs .entry)))) ⌝ }
-    ensures after { λ r. ⌜ image (now (counts .exit)) (now (times .exit)) (now (numbers .exit)) (now (ticks .exit)) (now (words .exit)) (now (pins .exit)) (now (outputs .exit)) ≡ afterTake (image (now (counts .entry)) (now (times .entry)) (now (numbers .entry)) (now (ticks .entry)) (now (words .entry)) (now (pins .entry)) (now (outputs .entry))) ⌝ }
+    ensures { λ r. ⌜ r ≡ given (takenIn (before counts times numbers ticks words pins outputs)) ⌝ }
+    ensures after { λ r. ⌜ after counts times numbers ticks words pins outputs ≡ afterTake (before counts times numbers ticks words pins outputs) ⌝ }
 {
-    let a = hall::take_in(counts, times, numbers, ticks, words, pins, outputs);
+    let a = console::take_in(counts, times, numbers, ticks, words, pins, outputs);
     let e = a.entry;
     let t = e.stamp;
     Given {

@@ -1,6 +1,6 @@
 -- `hall::fresh` meets its contract: the fresh place, 200 times, and the fresh journal.
 use borrow.Author.Needs.{needs}
-use Rattle.hall.specs.State.{freshState}
+use Rattle.image.specs.State.{freshState}
 use Rattle.hall.proofs.fresh.Statement.{statement}
 use Rattle.hall.proofs.fresh.Tie as tie
 

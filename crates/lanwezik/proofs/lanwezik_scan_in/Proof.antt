@@ -6,19 +6,7 @@ use Rattle.lanwezik.proofs.lanwezik_scan_in.Statement.{statement}
 use Rattle.lanwezik.proofs.lanwezik_scan_in.Tie as tie
 
 returns : tie.Need-returns
-returns c = let e = c .before .before .before .before .before .before .before .before .before .before .before .before .before .before .scan-in .ensures in (ap scanned (e .0), e .1)
+returns c = let e = c .before .scan-in .ensures in (ap scanned (e .0), e .1)
 
 pub lanwezik-scan-in-spec : {M : Type 1} → statement M
-lanwezik-scan-in-spec =
-    tie.close
-    (tie.spec
-    (λ c κs. search needs)
-    (λ c. search needs)
-    (λ c. search needs)
-    (λ c. search needs)
-    (λ c. search needs)
-    (λ c. search needs)
-    (λ c. search needs)
-    (λ c. search needs)
-    (λ c. search needs)
-    returns)
+lanwezik-scan-in-spec = tie.close (tie.spec (λ c κs. search needs) (λ c. search needs) returns)

@@ -2,8 +2,8 @@
 use mathlib.Core.Path.{_≡_, ap, _∙_}
 use borrow.Author.Needs.{needs}
 use mir.Val.{boolByte}
-use Rattle.image.proofs.Copies.{as-byte}
-use Rattle.hall.specs.declared.TakeAnswer.{TakeAnswer}
+use Rattle.terms.proofs.Bits.{as-byte}
+use Rattle.calls.specs.declared.TakeAnswer.{TakeAnswer}
 use Rattle.lanwezik.specs.Answers.{given}
 use Rattle.lanwezik.proofs.lanwezik_take_in.Statement.{statement}
 use Rattle.lanwezik.proofs.lanwezik_take_in.Tie as tie
@@ -12,23 +12,7 @@ widened : (a : TakeAnswer) → record { refusal = a .refusal; found = boolByte (
 widened a = rw (as-byte (a .found))
 
 returns : tie.Need-returns
-returns c =
-    let r = c .before .before .before .before .before .before .before .before .before .before .before .before .before .before .before .before .before .before .take-in in
-    (widened (r .result) ∙ ap given (r .ensures .0), r .ensures .1)
+returns c = let r = c .before .before .before .before .before .take-in in (widened (r .result) ∙ ap given (r .ensures .0), r .ensures .1)
 
 pub lanwezik-take-in-spec : {M : Type 1} → statement M
-lanwezik-take-in-spec =
-    tie.close
-    (tie.spec
-    (λ c κs. search needs)
-    (λ c. search needs)
-    (λ c. search needs)
-    (λ c. search needs)
-    (λ c. search needs)
-    (λ c. search needs)
-    (λ c. search needs)
-    (λ c. search needs)
-    (λ c. search needs)
-    (λ c. search needs)
-    (λ c. search needs)
-    returns)
+lanwezik-take-in-spec = tie.close (tie.spec (λ c κs. search needs) (λ c. search needs) (λ c. search needs) (λ c. search needs) returns)

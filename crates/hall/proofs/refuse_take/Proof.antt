@@ -1,7 +1,0 @@
--- `hall::refuse_take` meets its contract: the refusal of a bad state, and the entry of a place that is not held.
-use borrow.Author.Needs.{needs}
-use Rattle.hall.proofs.refuse_take.Statement.{statement}
-use Rattle.hall.proofs.refuse_take.Tie as tie
-
-pub refuse-take-spec : {M : Type 1} → statement M
-refuse-take-spec = tie.close (tie.spec (λ c κs. search needs) (λ c. rw (c .zero .ensures)))

@@ -1,4 +1,0 @@
-pub mod State
-pub mod Calls
-pub mod Images
-pub mod Answers
