@@ -1,8 +1,7 @@
 pub mod Fronts
-pub mod Texts
+pub mod Ends
+pub mod Heads
 pub mod Scans
-pub mod Tellings
-pub mod Openings
-pub mod Streams
-pub mod Parts
-pub mod Rests
+pub mod Tests
+pub mod Cuts
+pub mod Moves

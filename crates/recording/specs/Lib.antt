@@ -1,4 +1,2 @@
 pub mod Recording
-pub mod Listing
 pub mod Answers
-pub mod Windows

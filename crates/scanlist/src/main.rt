@@ -2,5 +2,5 @@
 use libc::STDIN_FILENO;
 
 fn main() {
-    recording::run(STDIN_FILENO);
+    stream::run(STDIN_FILENO);
 }

@@ -1,4 +1,4 @@
-// Every file that an argument names, under its name: each is a recording, of which the listing is printed.
+// Every file that an argument names, under its name: each is a recording, and what scanlist prints for it follows.
 use libc::STDOUT_FILENO;
 
 // The file that argument i names.
@@ -13,7 +13,7 @@ fn file(i: usize) {
         os::fail(&path[..n]);
         return;
     }
-    recording::run(fd);
+    stream::run(fd);
     libc::close(fd);
 }
 

@@ -1,24 +1,30 @@
 -- `recording::read_head` meets its contract: the number's answer, and then the two tests of a length.
-use Rattle.recording.proofs.Scans.{number-within}
+use Rattle.recording.proofs.Ends.{number-within}
 use native.Mathlib.Omega.{arith}
 use mathlib.Core.Path.{sym, _∙_}
 use borrow.Author.Tests.{lt-ltb, le-ltb}
-use Rattle.recording.specs.Listing.{programBytes, lengthIn}
+use Rattle.recording.specs.Recording.{programBytes, lengthIn}
 use borrow.Author.Needs.{needs}
 use Rattle.recording.proofs.read_head.Statement.{statement}
 use Rattle.recording.proofs.read_head.Tie as tie
 
 returns : tie.Need-returns
 unfolding lengthIn
-returns c = rw (sym (c .before .before .before .before .number .ensures) ∙ c .before .before .n .given .1, lt-ltb programBytes _ (c .if1 .taken))
+returns c =
+    let met = c .before .before in
+    rw (sym (met .before .before .number .ensures) ∙ met .n .given .1, lt-ltb programBytes _ (c .if1 .taken))
 
 returns-2 : tie.Need-returns-2
 unfolding lengthIn
-returns-2 c = rw (sym (c .before .before .before .before .before .number .ensures) ∙ c .before .before .before .n .given .1, le-ltb programBytes _ (c .before .if1 .left), lt-ltb _ _ (c .if2 .taken))
+returns-2 c =
+    let met = c .before .before .before in
+    rw (sym (met .before .before .number .ensures) ∙ met .n .given .1, le-ltb programBytes _ (c .before .if1 .left), lt-ltb _ _ (c .if2 .taken))
 
 returns-3 : tie.Need-returns-3
 unfolding lengthIn
-returns-3 c = rw (sym (c .before .before .before .before .before .number .ensures) ∙ c .before .before .before .n .given .1, le-ltb programBytes _ (c .before .if1 .left), le-ltb _ _ (c .if2 .left))
+returns-3 c =
+    let met = c .before .before .before in
+    rw (sym (met .before .before .number .ensures) ∙ met .n .given .1, le-ltb programBytes _ (c .before .if1 .left), le-ltb _ _ (c .if2 .left))
 
 returns-4 : tie.Need-returns-4
 unfolding lengthIn
@@ -36,7 +42,9 @@ read-head-spec =
     (λ c. search needs)
     (λ c. search needs)
     returns
-    (λ c. record { fits = omega (arith, number-within _ 0 (sym (c .before .before .before .before .number .ensures) ∙ c .before .before .n .given .1), c .if1 .left) })
+    (λ c.
+    let met = c .before .before in
+    record { fits = omega (arith, number-within _ 0 (sym (met .before .before .number .ensures) ∙ met .n .given .1), c .if1 .left) })
     returns-2
     (λ c. search needs)
     (λ c. search needs)

@@ -12,10 +12,15 @@ read-scan-spec =
     (tie.spec
     (λ c κs. search needs)
     (λ c κs. search needs)
-    (λ c. c .no-scan .ensures ∙ scan-bad _ _ (c .before .before .before .read-shorts .ensures) (not-true _ (c .before .if1 .taken)))
+    (λ c.
+    let tested = c .before in
+    c .no-scan .ensures ∙ scan-bad _ _ (tested .before .before .read-shorts .ensures) (not-true _ (tested .if1 .taken)))
     (λ c. search needs)
     (λ c. search needs)
     (λ c. search needs)
     (λ c κs. search needs)
     (λ c κs. search needs)
-    (λ c. rw (c .words-of .ensures, c .before .bits-of .ensures) (scan-good _ _ (c .before .before .before .before .before .read-shorts .ensures) (not-false _ (c .before .before .before .if1 .left)))))
+    (λ c.
+    let tested = c .before .before .before in
+    rw (c .words-of .ensures, c .before .bits-of .ensures)
+    (scan-good _ _ (tested .before .before .read-shorts .ensures) (not-false _ (tested .if1 .left)))))

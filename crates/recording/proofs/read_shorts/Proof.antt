@@ -11,7 +11,8 @@ use Rattle.recording.proofs.read_shorts.Statement.{statement}
 use Rattle.recording.proofs.read_shorts.Tie as tie
 
 abbrev Inv-loop : tie.InvT-loop
-Inv-loop s start values₀ at₀ i₀ values at i = ((i ≤ 11) × (length values ≡ 11)) × (shortsIn (shortsAt 11 s start) ≡ shortsFrom i values (shortsAt (11 - i) s at))
+Inv-loop s start values₀ at₀ i₀ values at i =
+    ((i ≤ 11) × (length values ≡ 11)) × (shortsIn (shortsAt 11 s start) ≡ shortsFrom i values (shortsAt (11 - i) s at))
 
 abbrev μ-loop : tie.MeasureT-loop
 μ-loop s start values₀ at₀ i₀ values at i = 11 - i
@@ -24,13 +25,17 @@ returns : tie.Need-returns Inv-loop μ-loop
 returns c =
     let l = c .before .before .before .before .before in
     let e : 11 - l .loop .i ≡ suc (11 - (l .loop .i + 1)) = omega arith in
-    c .no-shorts .ensures ∙ sym (rw e at (l .loop .inv .1) ∙ shorts-broken _ _ _ _ _ (sym (c .before .before .before .read-short .ensures) ∙ c .before .enum-told .given .1))
+    let told = c .before in
+    let stop = shorts-broken _ _ _ _ _ (sym (told .before .before .read-short .ensures) ∙ told .enum-told .given .1) in
+    c .no-shorts .ensures ∙ sym (rw e at (l .loop .inv .1) ∙ stop)
 
 loop-again : tie.Need-loop-again Inv-loop μ-loop
 loop-again c =
     let l = c .before .before .before .before .before in
     let e : 11 - l .loop .i ≡ suc (11 - (l .loop .i + 1)) = omega arith in
-    ((omega arith, simp length-set (l .loop .inv .0 .1)), rw e at (l .loop .inv .1) ∙ shorts-got _ _ _ _ _ (sym (c .before .before .before .read-short .ensures) ∙ c .before .n .given .1))
+    let met = c .before in
+    let turn = shorts-got _ _ _ _ _ (sym (met .before .before .read-short .ensures) ∙ met .n .given .1) in
+    ((omega arith, simp length-set (l .loop .inv .0 .1)), rw e at (l .loop .inv .1) ∙ turn)
 
 returns-2 : tie.Need-returns-2 Inv-loop μ-loop
 unfolding shortsAt

@@ -9,7 +9,7 @@ use Prim.Native.Nat.{_-_, _≤_}
 use native.Mathlib.Omega.{arith}
 use borrow.Author.Needs.{needs}
 use lib.ListN.{length, take, drop, length-set, length-drop}
-use Rattle.running.specs.Running.{signed}
+use Rattle.terms.specs.Words.{signed}
 use Rattle.recording.proofs.Scans.{words-turn}
 use Rattle.recording.proofs.words_of.Statement.{statement}
 use Rattle.recording.proofs.words_of.Tie as tie
@@ -23,8 +23,9 @@ abbrev μ-loop : tie.MeasureT-loop
 loop-again : tie.Need-loop-again Inv-loop μ-loop
 loop-again c =
     let l = c .before .before in
-    let f : SFits w16 (c .plus-minus .result) = search needs in
-    ((omega arith, simp length-set (l .loop .inv .0 .1)), rw (toZ-ofZ f, c .plus-minus .ensures) (words-turn (l .before .args .t1) (l .loop .words) (l .loop .i) (omega arith) (omega arith) (l .loop .inv .1)))
+    let f : SFits w16 (c .signed .result) = search needs in
+    let turn = words-turn (l .before .args .t1) (l .loop .words) (l .loop .i) (omega arith) (omega arith) (l .loop .inv .1) in
+    ((omega arith, simp length-set (l .loop .inv .0 .1)), rw (toZ-ofZ f, c .signed .ensures) turn)
 
 returns : tie.Need-returns Inv-loop μ-loop
 returns c =

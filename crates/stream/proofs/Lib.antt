@@ -1,0 +1,4 @@
+pub mod Streams
+pub mod Steps
+pub mod Parts
+pub mod Rests
