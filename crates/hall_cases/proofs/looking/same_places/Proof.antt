@@ -1,8 +1,8 @@
--- `hall_cases::same_places` meets its contract: the index counts up to 200.
+-- `hall_cases::looking::same_places` meets its contract: the index counts up to 200.
 use Prim.Native.Nat.{_-_}
 use borrow.Author.Needs.{needs}
-use Rattle.hall_cases.proofs.same_places.Statement.{statement}
-use Rattle.hall_cases.proofs.same_places.Tie as tie
+use Rattle.hall_cases.proofs.looking.same_places.Statement.{statement}
+use Rattle.hall_cases.proofs.looking.same_places.Tie as tie
 
 abbrev Inv-loop : tie.InvT-loop
 Inv-loop ps qs i₀ i = Unit {0}

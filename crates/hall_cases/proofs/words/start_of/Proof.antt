@@ -1,9 +1,9 @@
--- `hall_cases::start_of` meets its contract: the place stays within the line, and a word is counted off only while some are left.
+-- `hall_cases::words::start_of` meets its contract: the place stays within the line, and a word is counted off only while some are left.
 use lib.ListN.{length}
 use Prim.Native.Nat.{_-_, _≤_}
 use borrow.Author.Needs.{needs}
-use Rattle.hall_cases.proofs.start_of.Statement.{statement}
-use Rattle.hall_cases.proofs.start_of.Tie as tie
+use Rattle.hall_cases.proofs.words.start_of.Statement.{statement}
+use Rattle.hall_cases.proofs.words.start_of.Tie as tie
 
 abbrev Inv-loop : tie.InvT-loop
 Inv-loop line k at₀ left₀ at left = at ≤ length line

@@ -1,11 +1,11 @@
--- `hall_cases::bytes_of` meets its contract: a store keeps the buffer's length.
+-- `hall_cases::words::bytes_of` meets its contract: a store keeps the buffer's length.
 use mathlib.Core.Path.{_≡_}
 use borrow.Author.Needs.{needs}
 use lib.ListN.{length, length-set}
 use native.Mathlib.Omega.{arith}
 use Prim.Native.Nat.{_-_, _≤_}
-use Rattle.hall_cases.proofs.bytes_of.Statement.{statement}
-use Rattle.hall_cases.proofs.bytes_of.Tie as tie
+use Rattle.hall_cases.proofs.words.bytes_of.Statement.{statement}
+use Rattle.hall_cases.proofs.words.bytes_of.Tie as tie
 
 abbrev Inv-loop : tie.InvT-loop
 Inv-loop digits out₀ n i₀ out i = (i ≤ n) × (length out ≡ length out₀)

@@ -1,8 +1,8 @@
--- `hall_cases::same_journal` meets its contract: the index counts up to 32.
+-- `hall_cases::looking::same_journal` meets its contract: the index counts up to 32.
 use Prim.Native.Nat.{_-_}
 use borrow.Author.Needs.{needs}
-use Rattle.hall_cases.proofs.same_journal.Statement.{statement}
-use Rattle.hall_cases.proofs.same_journal.Tie as tie
+use Rattle.hall_cases.proofs.looking.same_journal.Statement.{statement}
+use Rattle.hall_cases.proofs.looking.same_journal.Tie as tie
 
 abbrev Inv-loop : tie.InvT-loop
 Inv-loop x y es fs i₀ i = Unit {0}

@@ -1,9 +1,9 @@
--- `hall_cases::distance` meets its contract: the bits of a negative word, turned, are its distance less one, and those of any other are the word.
+-- `hall_cases::saying::distance` meets its contract: the bits of a negative word, turned, are its distance less one, and those of any other are the word.
 use native.Mathlib.Omega.{arith}
 use Rattle.hall_cases.proofs.Signs.{told, turned-positive, turned-small, positive, small}
 use borrow.Author.Needs.{needs}
-use Rattle.hall_cases.proofs.distance.Statement.{statement}
-use Rattle.hall_cases.proofs.distance.Tie as tie
+use Rattle.hall_cases.proofs.saying.distance.Statement.{statement}
+use Rattle.hall_cases.proofs.saying.distance.Tie as tie
 
 below : tie.Need-cast-result
 below c = let f = c .before .fits .w in let h = told f (c .if1 .taken) in (turned-positive _ f h, record { fits = omega (arith, turned-small _ f h) })

@@ -1,9 +1,9 @@
--- `hall_cases::line_end` meets its contract: the place stays between where it began and the end.
+-- `hall_cases::words::line_end` meets its contract: the place stays between where it began and the end.
 use lib.ListN.{length}
 use Prim.Native.Nat.{_-_, _≤_}
 use borrow.Author.Needs.{needs}
-use Rattle.hall_cases.proofs.line_end.Statement.{statement}
-use Rattle.hall_cases.proofs.line_end.Tie as tie
+use Rattle.hall_cases.proofs.words.line_end.Statement.{statement}
+use Rattle.hall_cases.proofs.words.line_end.Tie as tie
 
 abbrev Inv-loop : tie.InvT-loop
 Inv-loop text from at₀ at = (from ≤ at) × (at ≤ length text)
