@@ -8,21 +8,14 @@
  */
 #include "lanwezik.h"
 
-#define STATE_PARAMETERS \
-    uint64_t *counts, size_t counts_length, uint64_t *times, size_t times_length, \
-    uint8_t *numbers, size_t numbers_length, uint32_t *ticks, size_t ticks_length, \
-    int16_t *words, size_t words_length, uint8_t *pins, size_t pins_length, \
-    uint8_t *outputs, size_t outputs_length
-
-#define STATE \
-    counts, counts_length, times, times_length, numbers, numbers_length, \
-    ticks, ticks_length, words, words_length, pins, pins_length, \
-    outputs, outputs_length
+#define LOG uint64_t *counts, uint64_t *times, uint8_t *numbers
 
 void *module_accept(lanwezik_acceptance *answer, const uint8_t *program, size_t length);
-void *module_scan_in(lanwezik_scanned *answer, const uint8_t *program, size_t length,
-                     STATE_PARAMETERS, const lanwezik_inputs *inputs);
-void *module_take_in(lanwezik_taken *answer, STATE_PARAMETERS);
+void *module_scan_in(lanwezik_scanned *answer, const uint8_t *program, size_t length, LOG,
+                     uint32_t *ticks, int16_t *words, uint8_t *pins, uint8_t *outputs,
+                     const lanwezik_inputs *inputs);
+void *module_take_in(lanwezik_taken *answer, LOG, const uint32_t *ticks, const int16_t *words,
+                     const uint8_t *pins, const uint8_t *outputs);
 
 lanwezik_acceptance lanwezik_accept(const uint8_t *program, size_t length)
 {
@@ -32,19 +25,22 @@ lanwezik_acceptance lanwezik_accept(const uint8_t *program, size_t length)
     return answer;
 }
 
-lanwezik_scanned lanwezik_scan_in(const uint8_t *program, size_t length, STATE_PARAMETERS,
+lanwezik_scanned lanwezik_scan_in(const uint8_t *program, size_t length, LOG, uint32_t *ticks,
+                                  int16_t *words, uint8_t *pins, uint8_t *outputs,
                                   lanwezik_inputs inputs)
 {
     lanwezik_scanned answer;
 
-    (void)module_scan_in(&answer, program, length, STATE, &inputs);
+    (void)module_scan_in(&answer, program, length, counts, times, numbers, ticks, words, pins,
+                         outputs, &inputs);
     return answer;
 }
 
-lanwezik_taken lanwezik_take_in(STATE_PARAMETERS)
+lanwezik_taken lanwezik_take_in(LOG, const uint32_t *ticks, const int16_t *words,
+                                const uint8_t *pins, const uint8_t *outputs)
 {
     lanwezik_taken answer;
 
-    (void)module_take_in(&answer, STATE);
+    (void)module_take_in(&answer, counts, times, numbers, ticks, words, pins, outputs);
     return answer;
 }

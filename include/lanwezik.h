@@ -39,7 +39,7 @@ enum {
                                or bytes follow the end */
     LANWEZIK_ABSENT = 3,    /* a reference to no block, or to the word of a kind without one */
     LANWEZIK_MEMORY = 4,    /* the program's memory is over 5,000 */
-    LANWEZIK_BAD_STATE = 5, /* no state is like the one given, or a slice has a wrong length */
+    LANWEZIK_BAD_STATE = 5, /* no state is like the one given */
     LANWEZIK_OVERRUN = 6    /* the time would run over, or missed might */
 };
 
@@ -125,57 +125,36 @@ typedef char lanwezik_acceptance_has_24_bytes[sizeof(lanwezik_acceptance) == 24 
 typedef char lanwezik_scanned_has_24_bytes[sizeof(lanwezik_scanned) == 24 ? 1 : -1];
 typedef char lanwezik_taken_has_24_bytes[sizeof(lanwezik_taken) == 24 ? 1 : -1];
 
-/* ---- Slices ----
+/* ---- What the archive exports ----
  *
- * What the archive exports.  A slice is passed as a pointer and its number of
- * elements.  Slices that are written must not overlap any other, and a pointer
- * has as many elements behind it as is said.  A length other than that in
- * lanwezik_state is refused as LANWEZIK_BAD_STATE, and nothing is written.  With
- * a lanwezik_state at hand, use the calls further below instead.
+ * The program is passed as a pointer and its number of bytes, the arrays of a
+ * state as pointers to their first elements, each with as many behind it as in
+ * lanwezik_state.  Arrays that are written must not overlap any other.  With a
+ * lanwezik_state at hand, use the calls further below instead.
  */
 
 /* Reads a whole program; answers the first fault, or its memory and its steps. */
 lanwezik_acceptance lanwezik_accept(const uint8_t *program, size_t length);
 
-/* Answers LANWEZIK_GOOD or LANWEZIK_BAD_STATE. */
-uint32_t lanwezik_fresh_in(uint64_t *counts, size_t counts_length,
-                           uint64_t *times, size_t times_length,
-                           uint8_t *numbers, size_t numbers_length,
-                           uint32_t *ticks, size_t ticks_length,
-                           int16_t *words, size_t words_length,
-                           uint8_t *pins, size_t pins_length,
-                           uint8_t *outputs, size_t outputs_length);
+void lanwezik_fresh_in(uint64_t *counts, uint64_t *times, uint8_t *numbers, uint32_t *ticks,
+                       int16_t *words, uint8_t *pins, uint8_t *outputs);
 
-lanwezik_scanned lanwezik_scan_in(const uint8_t *program, size_t length,
-                                  uint64_t *counts, size_t counts_length,
-                                  uint64_t *times, size_t times_length,
-                                  uint8_t *numbers, size_t numbers_length,
-                                  uint32_t *ticks, size_t ticks_length,
-                                  int16_t *words, size_t words_length,
-                                  uint8_t *pins, size_t pins_length,
-                                  uint8_t *outputs, size_t outputs_length,
+lanwezik_scanned lanwezik_scan_in(const uint8_t *program, size_t length, uint64_t *counts,
+                                  uint64_t *times, uint8_t *numbers, uint32_t *ticks,
+                                  int16_t *words, uint8_t *pins, uint8_t *outputs,
                                   lanwezik_inputs inputs);
 
-lanwezik_taken lanwezik_take_in(uint64_t *counts, size_t counts_length,
-                                uint64_t *times, size_t times_length,
-                                uint8_t *numbers, size_t numbers_length,
-                                uint32_t *ticks, size_t ticks_length,
-                                int16_t *words, size_t words_length,
-                                uint8_t *pins, size_t pins_length,
-                                uint8_t *outputs, size_t outputs_length);
+lanwezik_taken lanwezik_take_in(uint64_t *counts, uint64_t *times, uint8_t *numbers,
+                                const uint32_t *ticks, const int16_t *words,
+                                const uint8_t *pins, const uint8_t *outputs);
 
 /* ---- Calls ---- */
 
 /* Makes any state the one in which nothing has happened: all zero and off. */
 static inline void lanwezik_fresh(lanwezik_state *state)
 {
-    (void)lanwezik_fresh_in(state->counts, LANWEZIK_COUNTS,
-                            state->times, LANWEZIK_ENTRIES,
-                            state->numbers, LANWEZIK_ENTRIES,
-                            state->ticks, LANWEZIK_PLACES,
-                            state->words, LANWEZIK_PLACES,
-                            state->pins, LANWEZIK_PLACES,
-                            state->outputs, LANWEZIK_PLACES);
+    lanwezik_fresh_in(state->counts, state->times, state->numbers, state->ticks, state->words,
+                      state->pins, state->outputs);
 }
 
 /* Runs every block once, inputs->elapsed ticks after the last scan, and stores
@@ -186,28 +165,16 @@ static inline lanwezik_scanned lanwezik_scan(const uint8_t *program, size_t leng
                                              lanwezik_state *state,
                                              const lanwezik_inputs *inputs)
 {
-    return lanwezik_scan_in(program, length,
-                            state->counts, LANWEZIK_COUNTS,
-                            state->times, LANWEZIK_ENTRIES,
-                            state->numbers, LANWEZIK_ENTRIES,
-                            state->ticks, LANWEZIK_PLACES,
-                            state->words, LANWEZIK_PLACES,
-                            state->pins, LANWEZIK_PLACES,
-                            state->outputs, LANWEZIK_PLACES,
-                            *inputs);
+    return lanwezik_scan_in(program, length, state->counts, state->times, state->numbers,
+                            state->ticks, state->words, state->pins, state->outputs, *inputs);
 }
 
 /* Takes the oldest entry out of the journal and frees its place; with none
  * held, finds nothing.  Refuses only a bad state, and leaves it as it was. */
 static inline lanwezik_taken lanwezik_take(lanwezik_state *state)
 {
-    return lanwezik_take_in(state->counts, LANWEZIK_COUNTS,
-                            state->times, LANWEZIK_ENTRIES,
-                            state->numbers, LANWEZIK_ENTRIES,
-                            state->ticks, LANWEZIK_PLACES,
-                            state->words, LANWEZIK_PLACES,
-                            state->pins, LANWEZIK_PLACES,
-                            state->outputs, LANWEZIK_PLACES);
+    return lanwezik_take_in(state->counts, state->times, state->numbers, state->ticks,
+                            state->words, state->pins, state->outputs);
 }
 
 /* ---- Reading a state ---- */

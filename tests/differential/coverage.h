@@ -20,8 +20,6 @@ typedef enum {
     GOOD_STATE,
     BAD_TICKS, BAD_PINS, BAD_HELD, BAD_NUMBER, BAD_TIME_BEYOND, BAD_NUMBER_BEYOND,
     BAD_OUTPUT, BAD_ALARMS, /* these two no oracle_state can be */
-    WRONG_COUNTS, WRONG_TIMES, WRONG_NUMBERS, WRONG_TICKS, WRONG_WORDS,
-    WRONG_PINS, WRONG_OUTPUTS, /* wrong lengths */
     WAYS
 } way;
 

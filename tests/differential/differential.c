@@ -24,7 +24,7 @@ enum {
     MOST_PINS = 15,
     MOST_ALARM_NUMBER = 31,
     SIGNED_ZERO = 32768,
-    BEYOND = 8 /* elements behind every slice that must stay as they are */
+    BEYOND = 8 /* elements behind every array that must stay as they are */
 };
 
 static uint64_t seed;
@@ -179,16 +179,15 @@ static lanwezik_acceptance right_accept(const uint8_t *bytes, size_t length)
     return right;
 }
 
-/* Leaves the state after the scan in `image`; `whole` if every length is right. */
+/* Leaves the state after the scan in `image`. */
 static lanwezik_scanned right_scan(const uint8_t *bytes, size_t length,
-                                   const lanwezik_inputs *given, bool whole,
-                                   lanwezik_state *image)
+                                   const lanwezik_inputs *given, lanwezik_state *image)
 {
     oracle_state state;
     oracle_answer answer = {0, 0, 0, 0, 0};
     lanwezik_scanned right;
 
-    if (to_oracle(image, &state) && whole) {
+    if (to_oracle(image, &state)) {
         answer = oracle_scan(bytes, length, &state, given->elapsed, given->bits,
                              given->analogs);
         to_image(&state, image);
@@ -206,14 +205,14 @@ static lanwezik_scanned right_scan(const uint8_t *bytes, size_t length,
     return right;
 }
 
-/* Leaves the state after the take in `image`; `whole` if every length is right. */
-static lanwezik_taken right_take(bool whole, lanwezik_state *image)
+/* Leaves the state after the take in `image`. */
+static lanwezik_taken right_take(lanwezik_state *image)
 {
     lanwezik_taken right = {LANWEZIK_BAD_STATE, 0, 0, 0};
     oracle_state state;
     oracle_taken answer;
 
-    if (!to_oracle(image, &state) || !whole)
+    if (!to_oracle(image, &state))
         return right;
     answer = oracle_take(&state);
     to_image(&state, image);
@@ -224,9 +223,9 @@ static lanwezik_taken right_take(bool whole, lanwezik_state *image)
     return right;
 }
 
-/* ---- Slices ---- */
+/* ---- Arrays ---- */
 
-/* A state as slices, with elements behind each that no call may write. */
+/* A state as arrays, with elements behind each that no call may write. */
 typedef struct {
     uint64_t counts[LANWEZIK_COUNTS + BEYOND];
     uint64_t times[LANWEZIK_ENTRIES + BEYOND];
@@ -260,38 +259,10 @@ static void get_image(const rooms *from, lanwezik_state *image)
     memcpy(image->outputs, from->outputs, sizeof image->outputs);
 }
 
-enum { SLICES = WAYS - WRONG_COUNTS };
+#define PASS(to) \
+    (to).counts, (to).times, (to).numbers, (to).ticks, (to).words, (to).pins, (to).outputs
 
-/* The lengths to pass, in the order of the ways; one is wrong if `how` says so,
- * and then now and then others too. */
-static void choose_lengths(way how, size_t lengths[SLICES])
-{
-    static const uint8_t right[SLICES] = {
-        LANWEZIK_COUNTS, LANWEZIK_ENTRIES, LANWEZIK_ENTRIES, LANWEZIK_PLACES,
-        LANWEZIK_PLACES, LANWEZIK_PLACES, LANWEZIK_PLACES
-    };
-    unsigned i;
-
-    for (i = 0; i < SLICES; i++) {
-        lengths[i] = right[i];
-        if (how < WRONG_COUNTS || (how - WRONG_COUNTS != i && !percent(3)))
-            continue;
-        switch (below(5)) {
-        case 0: lengths[i] = 0; break;
-        case 1: lengths[i] -= 1; break;
-        case 2: lengths[i] += 1; break;
-        case 3: lengths[i] = below(right[i]); break;
-        default: lengths[i] += 1 + below(BEYOND); break;
-        }
-    }
-}
-
-#define PASS(to, lengths) \
-    (to).counts, (lengths)[0], (to).times, (lengths)[1], (to).numbers, (lengths)[2], \
-    (to).ticks, (lengths)[3], (to).words, (lengths)[4], (to).pins, (lengths)[5], \
-    (to).outputs, (lengths)[6]
-
-/* Says that a call wrote behind its slices, and ends. */
+/* Says that a call wrote behind its arrays, and ends. */
 static void check_behind(call which, const rooms *library, uint8_t behind)
 {
     lanwezik_state image;
@@ -302,7 +273,7 @@ static void check_behind(call which, const rooms *library, uint8_t behind)
     if (memcmp(&wanted, library, sizeof wanted) == 0)
         return;
     print_failure(which);
-    puts("  the library wrote behind a slice");
+    puts("  the library wrote behind an array");
     exit(1);
 }
 
@@ -341,54 +312,46 @@ static lanwezik_acceptance check_accept(const uint8_t *bytes, size_t length)
     exit(1);
 }
 
-/* Makes the image fresh, or refuses to if a length is wrong. */
-static void check_fresh(lanwezik_state *image, way how)
+/* Makes any image fresh, through the arrays or through the state. */
+static void check_fresh(lanwezik_state *image)
 {
     uint8_t behind = (uint8_t)below(256);
-    lanwezik_state before = *image, after = *image;
-    uint32_t library = 0;
-    uint32_t right = how >= WRONG_COUNTS ? LANWEZIK_BAD_STATE : LANWEZIK_GOOD;
-    size_t lengths[SLICES];
-    rooms slices;
+    lanwezik_state before = *image, after;
+    rooms arrays;
 
     calls_made++;
-    if (right == LANWEZIK_GOOD)
-        memset(&after, 0, sizeof after);
-    choose_lengths(how, lengths);
-    if (how < WRONG_COUNTS && percent(50)) {
+    memset(&after, 0, sizeof after);
+    if (percent(50)) {
         lanwezik_fresh(image);
     } else {
-        put_image(&slices, behind, image);
-        library = lanwezik_fresh_in(PASS(slices, lengths));
-        check_behind(FRESH, &slices, behind);
-        get_image(&slices, image);
+        put_image(&arrays, behind, image);
+        lanwezik_fresh_in(PASS(arrays));
+        check_behind(FRESH, &arrays, behind);
+        get_image(&arrays, image);
     }
-    if (library == right && is_right(FRESH, right, &before, image, &after)) {
-        cover_call(FRESH, right, how);
+    if (is_right(FRESH, LANWEZIK_GOOD, &before, image, &after)) {
+        cover_call(FRESH, LANWEZIK_GOOD, GOOD_STATE);
         return;
     }
     print_failure(FRESH);
-    printf("  library: %" PRIu32 ", right: %" PRIu32 "\n", library, right);
     print_states(image, &after, &before);
     exit(1);
 }
 
-/* Calls the library's scan, through the slices or through the state. */
+/* Calls the library's scan, through the arrays or through the state. */
 static lanwezik_scanned call_scan(const uint8_t *bytes, size_t length, lanwezik_state *image,
-                                  const lanwezik_inputs *given, way how)
+                                  const lanwezik_inputs *given)
 {
     uint8_t behind = (uint8_t)below(256);
     lanwezik_scanned library;
-    size_t lengths[SLICES];
-    rooms slices;
+    rooms arrays;
 
-    if (how < WRONG_COUNTS && percent(50))
+    if (percent(50))
         return lanwezik_scan(bytes, length, image, given);
-    choose_lengths(how, lengths);
-    put_image(&slices, behind, image);
-    library = lanwezik_scan_in(bytes, length, PASS(slices, lengths), *given);
-    check_behind(SCAN, &slices, behind);
-    get_image(&slices, image);
+    put_image(&arrays, behind, image);
+    library = lanwezik_scan_in(bytes, length, PASS(arrays), *given);
+    check_behind(SCAN, &arrays, behind);
+    get_image(&arrays, image);
     return library;
 }
 
@@ -396,8 +359,8 @@ static void check_scan(const uint8_t *bytes, size_t length, uint32_t figure,
                        lanwezik_state *image, const lanwezik_inputs *given, way how)
 {
     lanwezik_state before = *image, after = *image;
-    lanwezik_scanned library = call_scan(bytes, length, image, given, how);
-    lanwezik_scanned right = right_scan(bytes, length, given, how < WRONG_COUNTS, &after);
+    lanwezik_scanned library = call_scan(bytes, length, image, given);
+    lanwezik_scanned right = right_scan(bytes, length, given, &after);
 
     calls_made++;
     if (library.refusal == right.refusal && library.place == right.place
@@ -422,29 +385,27 @@ static void check_scan(const uint8_t *bytes, size_t length, uint32_t figure,
     exit(1);
 }
 
-/* Calls the library's take, through the slices or through the state. */
-static lanwezik_taken call_take(lanwezik_state *image, way how)
+/* Calls the library's take, through the arrays or through the state. */
+static lanwezik_taken call_take(lanwezik_state *image)
 {
     uint8_t behind = (uint8_t)below(256);
     lanwezik_taken library;
-    size_t lengths[SLICES];
-    rooms slices;
+    rooms arrays;
 
-    if (how < WRONG_COUNTS && percent(50))
+    if (percent(50))
         return lanwezik_take(image);
-    choose_lengths(how, lengths);
-    put_image(&slices, behind, image);
-    library = lanwezik_take_in(PASS(slices, lengths));
-    check_behind(TAKE, &slices, behind);
-    get_image(&slices, image);
+    put_image(&arrays, behind, image);
+    library = lanwezik_take_in(PASS(arrays));
+    check_behind(TAKE, &arrays, behind);
+    get_image(&arrays, image);
     return library;
 }
 
 static void check_take(lanwezik_state *image, way how)
 {
     lanwezik_state before = *image, after = *image;
-    lanwezik_taken library = call_take(image, how);
-    lanwezik_taken right = right_take(how < WRONG_COUNTS, &after);
+    lanwezik_taken library = call_take(image);
+    lanwezik_taken right = right_take(&after);
 
     calls_made++;
     if (library.refusal == right.refusal && library.found == right.found
@@ -671,7 +632,7 @@ static void put_bad_journal(lanwezik_state *image, way how)
         image->numbers[beyond] = (uint8_t)(1 + below(255));
 }
 
-/* Makes a good state bad in the given way; a wrong length leaves it good. */
+/* Makes a good state bad in the given way. */
 static void put_bad(lanwezik_state *image, way how)
 {
     uint64_t *alarms = &image->counts[LANWEZIK_ALARMS];
@@ -705,7 +666,7 @@ static void put_bad(lanwezik_state *image, way how)
 
 /* ---- Cases ---- */
 
-/* A bad state, or a wrong length, on a copy of the state. */
+/* A bad state, on a copy of the state. */
 static void run_bad(const lanwezik_state *image, const lanwezik_inputs *given)
 {
     way how = (way)(1 + below(WAYS - 1));
@@ -716,8 +677,8 @@ static void run_bad(const lanwezik_state *image, const lanwezik_inputs *given)
     put_bad(&copy, how);
     if (percent(5))
         put_near_end(&copy, given->elapsed);
-    if (how >= WRONG_COUNTS && percent(25))
-        check_fresh(&copy, how);
+    if (percent(5))
+        check_fresh(&copy);
     else if (percent(60))
         check_scan(program.bytes, program.length, program.figure, &copy, given, how);
     else
@@ -758,7 +719,7 @@ static void run_case(void)
     use_program();
     program.figure = check_accept(program.bytes, program.length).steps;
     put_garbage(&image);
-    check_fresh(&image, GOOD_STATE);
+    check_fresh(&image);
     if (percent(45))
         put_good(&image);
     turns = program.figure > 0 ? 8 + below(60) : 2 + below(4);

@@ -5,7 +5,7 @@
 #include "controller.h"
 #include "lanwezik.h"
 
-/* A state as slices, each a pointer and a length. */
+/* The arrays of a state, as every call is given them. */
 typedef struct {
     uint64_t *counts;
     uint64_t *times;
@@ -14,23 +14,14 @@ typedef struct {
     int16_t *words;
     uint8_t *pins;
     uint8_t *outputs;
-    bool whole; /* every length is right */
-} slices;
-
-/* Gathers the parameters that every call has. */
-#define SLICES \
-    {counts, times, numbers, ticks, words, pins, outputs, \
-     counts_length == LANWEZIK_COUNTS && times_length == LANWEZIK_ENTRIES \
-         && numbers_length == LANWEZIK_ENTRIES && ticks_length == LANWEZIK_PLACES \
-         && words_length == LANWEZIK_PLACES && pins_length == LANWEZIK_PLACES \
-         && outputs_length == LANWEZIK_PLACES}
+} arrays;
 
 /* Reads the state; false if no state has this image. */
-static bool load(const slices *from, oracle_state *state)
+static bool load(const arrays *from, oracle_state *state)
 {
     unsigned i;
 
-    if (!from->whole || from->counts[LANWEZIK_ALARMS] > UINT32_MAX)
+    if (from->counts[LANWEZIK_ALARMS] > UINT32_MAX)
         return false;
     state->time = from->counts[LANWEZIK_TIME];
     state->journal.missed = from->counts[LANWEZIK_MISSED];
@@ -51,7 +42,7 @@ static bool load(const slices *from, oracle_state *state)
     return true;
 }
 
-static void store(const slices *to, const oracle_state *state)
+static void store(const arrays *to, const oracle_state *state)
 {
     unsigned i;
 
@@ -79,35 +70,22 @@ lanwezik_acceptance lanwezik_accept(const uint8_t *program, size_t length)
     return answer;
 }
 
-uint32_t lanwezik_fresh_in(uint64_t *counts, size_t counts_length,
-                           uint64_t *times, size_t times_length,
-                           uint8_t *numbers, size_t numbers_length,
-                           uint32_t *ticks, size_t ticks_length,
-                           int16_t *words, size_t words_length,
-                           uint8_t *pins, size_t pins_length,
-                           uint8_t *outputs, size_t outputs_length)
+void lanwezik_fresh_in(uint64_t *counts, uint64_t *times, uint8_t *numbers, uint32_t *ticks,
+                       int16_t *words, uint8_t *pins, uint8_t *outputs)
 {
-    slices image = SLICES;
+    arrays image = {counts, times, numbers, ticks, words, pins, outputs};
     oracle_state state;
 
-    if (!image.whole)
-        return LANWEZIK_BAD_STATE;
     oracle_fresh(&state);
     store(&image, &state);
-    return LANWEZIK_GOOD;
 }
 
-lanwezik_scanned lanwezik_scan_in(const uint8_t *program, size_t length,
-                                  uint64_t *counts, size_t counts_length,
-                                  uint64_t *times, size_t times_length,
-                                  uint8_t *numbers, size_t numbers_length,
-                                  uint32_t *ticks, size_t ticks_length,
-                                  int16_t *words, size_t words_length,
-                                  uint8_t *pins, size_t pins_length,
-                                  uint8_t *outputs, size_t outputs_length,
+lanwezik_scanned lanwezik_scan_in(const uint8_t *program, size_t length, uint64_t *counts,
+                                  uint64_t *times, uint8_t *numbers, uint32_t *ticks,
+                                  int16_t *words, uint8_t *pins, uint8_t *outputs,
                                   lanwezik_inputs inputs)
 {
-    slices image = SLICES;
+    arrays image = {counts, times, numbers, ticks, words, pins, outputs};
     lanwezik_scanned answer = {0, 0, 0, 0, 0};
     oracle_acceptance acceptance = oracle_accept(program, length);
     oracle_state state;
@@ -130,15 +108,12 @@ lanwezik_scanned lanwezik_scan_in(const uint8_t *program, size_t length,
     return answer;
 }
 
-lanwezik_taken lanwezik_take_in(uint64_t *counts, size_t counts_length,
-                                uint64_t *times, size_t times_length,
-                                uint8_t *numbers, size_t numbers_length,
-                                uint32_t *ticks, size_t ticks_length,
-                                int16_t *words, size_t words_length,
-                                uint8_t *pins, size_t pins_length,
-                                uint8_t *outputs, size_t outputs_length)
+lanwezik_taken lanwezik_take_in(uint64_t *counts, uint64_t *times, uint8_t *numbers,
+                                const uint32_t *ticks, const int16_t *words,
+                                const uint8_t *pins, const uint8_t *outputs)
 {
-    slices image = SLICES;
+    arrays image = {counts, times, numbers, (uint32_t *)ticks, (int16_t *)words,
+                    (uint8_t *)pins, (uint8_t *)outputs};
     lanwezik_taken answer = {LANWEZIK_BAD_STATE, 0, 0, 0};
     oracle_state state;
     oracle_taken given;
