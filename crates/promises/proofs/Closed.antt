@@ -1,24 +1,27 @@
 -- A good state stays good in every answer: a refusal hands it back, a scan's places and rises and a take keep it good. So no call from
--- fresh is refused with 5: acceptance refuses with 4 at most, and the state is good. Assumes nothing.
-use Prim.Native.Nat.{ℕ, _≤_}
-use mathlib.Core.Path.{_≡_, ap, _∙_}
+-- fresh is refused with 5: acceptance never refuses with 5, and the state is good. Assumes nothing.
+use Prim.Native.Nat.{ℕ}
+use mathlib.Core.Path.{_≡_, sym, ap, _∙_}
 use mathlib.Core.Bool.{true}
 use mathlib.Core.List.{List, [], _∷_}
 use native.Mathlib.Omega.{arith}
 use lib.ListN.{length}
-use Rattle.wire.specs.Choice.{every}
-use Rattle.wire.proofs.Choice.{both}
-use Rattle.wire.proofs.Every.{both-hold}
+use Rattle.terms.specs.Choice.{every}
+use Rattle.terms.proofs.Choice.{both}
+use Rattle.terms.proofs.Every.{both-hold}
+use Rattle.numbers.specs.Reading.{Marks}
+use Rattle.program.specs.Places.{Placed, is-bad, is-cut, is-outside, is-astray}
 use Rattle.program.specs.declared.Acceptance.{Acceptance}
 use Rattle.program.specs.Program.{Program}
 use Rattle.program.specs.Acceptance.{everyBlock, accepted}
 use Rattle.journal.specs.Journal.{taken}
-use Rattle.hall.specs.declared.State.{State}
-use Rattle.hall.specs.declared.Scanned.{Scanned}
-use Rattle.hall.specs.declared.Handed.{Handed}
-use Rattle.hall.specs.State.{freshState, goodPlace, goodState}
+use Rattle.image.specs.declared.State.{State}
+use Rattle.calls.specs.declared.Scanned.{Scanned}
+use Rattle.calls.specs.declared.Handed.{Handed}
+use Rattle.image.specs.State.{freshState, goodPlace, goodState}
 use Rattle.scanning.specs.Scan.{Inputs}
-use Rattle.hall.specs.Calls.{badState, stampOf, answered, scanOf, handedBy, takeOf}
+use Rattle.terms.specs.Refusals.{badState}
+use Rattle.calls.specs.Calls.{stampOf, answered, scanOf, handedBy, takeOf}
 use Rattle.promises.specs.Closure.{Closure}
 use Rattle.promises.specs.Demand1.{Accepting, stops, strays, overflows, passes, Scanning, refuses-program, refuses-state, refuses-time, refuses-missed, answers, Taking, refuses, hands}
 use Rattle.promises.specs.History.{Call, scan, take, refusalOf, stateOf, stateAfter}
@@ -38,14 +41,20 @@ answered-good : (p : Program) → Rows (p .blocks) → (x : Inputs) (s : State) 
 unfolding answered goodState
 answered-good p rows x s h =
     let o = both (every goodPlace (s .places)) _ h in
-    both-hold (scan-good x (p .blocks) rows (length (p .blocks)) (s .places) (o .0)) (risen-good _ (s .alarms) (stampOf x s) (s .journal) (o .1))
+    both-hold (scan-good x (p .blocks) rows (length (p .blocks)) (s .places) (o .0)) (risen-good _ (s .alarms) (stampOf x (s .time)) (s .journal) (o .1))
 
--- acceptance refuses with 4 at most
-accepted-few : (bytes : List ℕ) → Accepting bytes (accepted bytes) → accepted bytes .refusal ≤ 4
-accepted-few bytes (stops n at e few q a) = omega (arith, few, ap (λ (y : Acceptance). y .refusal) a)
-accepted-few bytes (strays p end at e t r q a) = omega (arith, ap (λ (y : Acceptance). y .refusal) a)
-accepted-few bytes (overflows p end e t m a) = omega (arith, ap (λ (y : Acceptance). y .refusal) a)
-accepted-few bytes (passes p end e t m a) = omega (arith, ap (λ (y : Acceptance). y .refusal) a)
+-- acceptance never refuses with 5
+placed-other : {m : Marks} {s : List ℕ} {n at : ℕ} → Placed m s n at → n ≡ badState → ⊥
+placed-other (is-bad h e) z = omega arith
+placed-other (is-cut h e) z = omega arith
+placed-other (is-outside h l) z = omega arith
+placed-other (is-astray ty before h e a u) z = omega arith
+
+accepted-other : (bytes : List ℕ) → Accepting bytes (accepted bytes) → accepted bytes .refusal ≡ badState → ⊥
+accepted-other bytes (stops n at e few q a) z = placed-other q (sym (ap (λ (y : Acceptance). y .refusal) a) ∙ z)
+accepted-other bytes (strays p end at e t r q a) z = omega (arith, ap (λ (y : Acceptance). y .refusal) a)
+accepted-other bytes (overflows p end e t m a) z = omega (arith, ap (λ (y : Acceptance). y .refusal) a)
+accepted-other bytes (passes p end e t m a) z = omega (arith, ap (λ (y : Acceptance). y .refusal) a)
 
 -- what a good state comes to in a scan, and in a take
 abbrev ScanKeeps : Scanned → Type 0
@@ -54,7 +63,7 @@ ScanKeeps a = (goodState (a .state) ≡ true) × (a .refusal ≡ badState → �
 scan-keeps : (bytes : List ℕ) (x : Inputs) (s : State) → goodState s ≡ true → Scanning bytes x s (scanOf bytes x s) → ScanKeeps (scanOf bytes x s)
 unfolding answered
 scan-keeps bytes x s h (refuses-program n r) =
-    (ap goodState (r .state) ∙ h, λ e. omega (arith, r .refusal, accepted-few bytes (accept-row bytes)))
+    (ap goodState (r .state) ∙ h, λ e. accepted-other bytes (accept-row bytes) (sym (r .refusal) ∙ e))
 scan-keeps bytes x s h (refuses-state ok g r) = let z : _≡_ {A = ℕ} 0 1 = cc in absurd (omega arith)
 scan-keeps bytes x s h (refuses-time ok g t r) = (ap goodState (r .state) ∙ h, λ e. omega (arith, r .refusal))
 scan-keeps bytes x s h (refuses-missed ok g m r) = (ap goodState (r .state) ∙ h, λ e. omega (arith, r .refusal))

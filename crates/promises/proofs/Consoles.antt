@@ -7,22 +7,20 @@ use native.Mathlib.Omega.{arith}
 use lib.Dec.{eqb}
 use lib.Pow.{pow-mono}
 use lib.ListN.{length, length-map, length-replicate}
-use Rattle.wire.proofs.Choice.{pick-case}
-use Rattle.block.specs.Reading.{Read, got, fault}
+use Rattle.terms.proofs.Choice.{pick-case}
+use Rattle.wire.specs.Reading.{Read, got, fault}
 use Rattle.program.specs.Program.{Program, programAt}
 use Rattle.program.specs.Acceptance.{everyBlock, accepted}
-use Rattle.image.specs.Image.{placesIn, placeIn, entriesIn, entryIn}
-use Rattle.image.proofs.Listed.{listed-long}
 use Rattle.scanning.specs.Scan.{Inputs, readBit, scanTo, alarmWord}
-use Rattle.hall.specs.declared.State.{State}
-use Rattle.hall.specs.declared.Scanned.{Scanned}
-use Rattle.hall.specs.State.{freshState, goodState}
-use Rattle.hall.specs.Calls.{answered, answerOf, late, scanOf, takeOf}
-use Rattle.rules.specs.Rules.{freshPlace}
+use Rattle.image.specs.declared.State.{State}
+use Rattle.calls.specs.declared.Scanned.{Scanned}
+use Rattle.image.specs.State.{freshState, goodState, late}
+use Rattle.calls.specs.Calls.{answered, answerOf, scanOf, takeOf}
+use Rattle.place.specs.Places.{freshPlace}
 use Rattle.journal.specs.Journal.{freshJournal, zeroEntry}
-use Rattle.hall.specs.Images.{Image, isImage, stateIn, imageOf, afterScan, afterTake, afterFresh}
-use Rattle.hall.proofs.Images.{image-parts, image-again}
-use Rattle.hall.proofs.States.{Whole, take-of-image, after-take-is-image, after-take-state, scan-of-image, after-scan-is-image, after-scan-state}
+use Rattle.image.specs.Image.{imageOf}
+use Rattle.calls.proofs.Whole.{Whole, took-whole, scan-whole}
+use Rattle.calls.proofs.States.{take-of-image, after-take, took-fit, scan-of-image, after-scan, alarms-fit}
 use Rattle.promises.specs.History.{Call, scan, take, stateOf, stateAfter}
 use Rattle.promises.specs.Console.{imageFor, imageAfter, Console}
 use Rattle.promises.proofs.GoodPlaces.{packed-below}
@@ -33,16 +31,6 @@ record Kept (s : State) : Type 0 where
   whole : Whole s
   alarms : s .alarms < 2 ^ 32
 
--- the state of an image has it
-kept-in : (i : Image) → isImage i ≡ true → Kept (stateIn i)
-unfolding placesIn entriesIn
-kept-in i e =
-    record {
-      whole =
-          record { places = listed-long 200 0 (placeIn (i .pins) (i .outputs) (i .ticks) (i .words)); entries = listed-long 32 0 (entryIn (i .numbers) (i .times)) };
-      alarms = image-parts i e .alarms;
-    }
-
 -- the alarm word that a scan answers fits
 abbrev Fits : Scanned → Type 0
 Fits r = r .alarms < 2 ^ 32
@@ -51,7 +39,7 @@ word-fits : (bytes : List ℕ) (x : Inputs) (s : State) → scanOf bytes x s .al
 unfolding scanOf answered alarmWord
 word-fits bytes x s =
     pick-case Fits (not (eqb (accepted bytes .refusal) 0)) (λ _. omega arith)
-    (λ _. pick-case Fits (not (goodState s)) (λ _. omega arith) (λ _. pick-case Fits (late x s) (λ _. omega arith) (λ _. go (programAt everyBlock bytes) refl)))
+    (λ _. pick-case Fits (not (goodState s)) (λ _. omega arith) (λ _. pick-case Fits (late (x .elapsed) (s .time) (s .journal .missed)) (λ _. omega arith) (λ _. go (programAt everyBlock bytes) refl)))
   where
     go : (r : Read Program) → programAt everyBlock bytes ≡ r → answerOf x s r .alarms < 2 ^ 32
     go (got p end) e =
@@ -62,25 +50,14 @@ word-fits bytes x s =
 
 -- one call
 module _ (bytes : List ℕ) (s : State) (k : Kept s) where
-  one-scan : (x : Inputs) → afterScan bytes x (imageOf s) ≡ imageOf (scanOf bytes x s .state)
-  one-scan x =
-      let e = after-scan-is-image bytes x s (k .whole) (k .alarms) (word-fits bytes x s) in
-      sym (image-again (afterScan bytes x (imageOf s)) e) ∙ ap imageOf (after-scan-state bytes x s (k .whole) (k .alarms))
-
-  one-take : afterTake (imageOf s) ≡ imageOf (takeOf s .state)
-  one-take =
-      let e = after-take-is-image s (k .whole) (k .alarms) in
-      sym (image-again (afterTake (imageOf s)) e) ∙ ap imageOf (after-take-state s (k .whole) (k .alarms))
-
   one-call : (c : Call) → imageFor bytes (imageOf s) c ≡ imageOf (stateOf bytes s c)
-  one-call (scan x) = one-scan x
-  one-call take = one-take
+  one-call (scan x) = after-scan s (k .whole) (k .alarms) bytes x .image
+  one-call take = after-take s (k .whole) (k .alarms) .image
 
   still-kept : (c : Call) → Kept (stateOf bytes s c)
   still-kept (scan x) =
-      subst Kept (after-scan-state bytes x s (k .whole) (k .alarms))
-      (kept-in (afterScan bytes x (imageOf s)) (after-scan-is-image bytes x s (k .whole) (k .alarms) (word-fits bytes x s)))
-  still-kept take = subst Kept (after-take-state s (k .whole) (k .alarms)) (kept-in (afterTake (imageOf s)) (after-take-is-image s (k .whole) (k .alarms)))
+      record { whole = scan-whole bytes x s (k .whole); alarms = alarms-fit s (k .whole) (k .alarms) bytes x (word-fits bytes x s) }
+  still-kept take = record { whole = took-whole s (k .whole); alarms = took-fit s (k .whole) (k .alarms) }
 
 -- calls
 module _ (bytes : List ℕ) where
@@ -99,14 +76,12 @@ unfolding freshState freshJournal
 kept-fresh = record { whole = record { places = length-replicate 200 freshPlace; entries = length-replicate 32 zeroEntry }; alarms = omega arith }
 
 pub console : Console
-unfolding afterFresh
 console =
     record {
-      fresh = λ i e. rw e;
       kept = λ bytes cs. images bytes freshState kept-fresh cs;
       scans = λ bytes cs x.
           let k = kept-after bytes freshState kept-fresh cs in
-          rw (images bytes freshState kept-fresh cs) (scan-of-image bytes x (stateAfter bytes freshState cs) (k .whole) (k .alarms));
+          rw (images bytes freshState kept-fresh cs) (scan-of-image (stateAfter bytes freshState cs) (k .whole) (k .alarms) bytes x);
       takes = λ bytes cs.
           let k = kept-after bytes freshState kept-fresh cs in
           rw (images bytes freshState kept-fresh cs) (take-of-image (stateAfter bytes freshState cs) (k .whole) (k .alarms));

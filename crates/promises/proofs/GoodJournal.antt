@@ -9,13 +9,14 @@ use lib.Dec.{ltb, leb, eqb}
 use lib.ListN.{take, drop}
 use lib.Seq.{drop-drop, drop-set-lt}
 use borrow.Author.Tests.{ltb-true, leb-true, le-leb}
-use Rattle.wire.specs.Choice.{every}
-use Rattle.wire.proofs.Choice.{pick-case, both}
+use Rattle.terms.specs.Choice.{every}
+use Rattle.terms.proofs.Choice.{pick-case, both}
 use Rattle.journal.specs.declared.Stamp.{Stamp}
 use Rattle.journal.specs.declared.Journal.{Journal}
 use Rattle.journal.specs.declared.Taken.{Taken}
-use Rattle.journal.specs.Journal.{bitOf, zeroEntry, freshJournal, noStamp, entryOf, numbered, empty, goodJournal, risesFrom, stored, storedAll, risen, taken}
-use Rattle.wire.proofs.Every.{both-hold, every-append, every-beyond, every-drop, every-replicate, every-set, every-take}
+use Rattle.terms.specs.Bits.{bitOf}
+use Rattle.journal.specs.Journal.{zeroEntry, freshJournal, noStamp, entryOf, numbered, empty, goodJournal, risesFrom, stored, storedAll, risen, taken}
+use Rattle.terms.proofs.Every.{both-hold, every-append, every-beyond, every-drop, every-replicate, every-set, every-take}
 
 record Sound (j : Journal) : Type 0 where
   few : j .held ≤ 32

@@ -10,16 +10,21 @@ use lib.Dec.{leb, lit<, lit≤}
 use lib.IntN.{ℤ}
 use lib.ListN.{length, getD, replicate}
 use borrow.Author.Tests.{leb-true, le-leb}
-use Rattle.wire.specs.Choice.{pick, every}
-use Rattle.wire.proofs.Choice.{pick-case, both}
-use Rattle.block.specs.Blocks.{Bit, Word, Content, Block}
-use Rattle.block.specs.Kinds.{kindOf, settingOf, typesOf}
-use Rattle.rules.specs.declared.Place.{Place}
-use Rattle.rules.specs.Rules.{freshPlace, packed, bl, sr, pl, al, cn, ud, cp, zc, st}
-use Rattle.running.specs.Running.{fieldOf, pinOf, wordOfField, Rule, rules, ruleOf, ruled}
-use Rattle.hall.specs.State.{goodPlace}
-use Rattle.scanning.specs.Scan.{Inputs, blockOf, scanTo}
-use Rattle.wire.proofs.Every.{both-hold, every-at, every-replicate, every-set}
+use Rattle.terms.specs.Choice.{pick, every}
+use Rattle.terms.proofs.Choice.{pick-case, both}
+use Rattle.numbers.specs.Blocks.{Bit, Word, Content, Block, blockOf}
+use Rattle.kinds.specs.Kinds.{kindOf, typesOf}
+use Rattle.numbers.specs.Types.{settingOf}
+use Rattle.place.specs.declared.Place.{Place}
+use Rattle.place.specs.Places.{freshPlace}
+use Rattle.switches.specs.Switches.{bl, sr, pl, al}
+use Rattle.counters.specs.Counters.{cn, ud}
+use Rattle.analog.specs.Analog.{cp, zc, st}
+use Rattle.terms.specs.Bits.{packed}
+use Rattle.rules.specs.Rules.{fieldOf, pinOf, wordOfField, Rule, rules, ruleOf, ruled}
+use Rattle.image.specs.State.{goodPlace}
+use Rattle.scanning.specs.Scan.{Inputs, scanTo}
+use Rattle.terms.proofs.Every.{both-hold, every-at, every-replicate, every-set}
 use Rattle.promises.proofs.ReadPrograms.{Row, Rows, setting-below, period-some}
 use Rattle.promises.proofs.Ticks.{most, Few, dl-few, os-few, fl-few, og-few}
 

@@ -7,21 +7,21 @@ use native.Mathlib.Omega.{arith}
 use borrow.Author.Tests.{ne-eqb}
 use lib.Dec.{eqb}
 use lib.ListN.{length, length-append, length-map}
-use Rattle.wire.specs.Choice.{pick}
-use Rattle.block.specs.Reading.{got}
+use Rattle.terms.specs.Choice.{pick}
+use Rattle.wire.specs.Reading.{got}
 use Rattle.program.specs.Program.{Program, figure}
 use Rattle.program.specs.Acceptance.{everyBlock, accepted}
-use Rattle.program.proofs.Faults.{Good, good, accepted-good}
-use Rattle.rules.specs.Rules.{packed}
+use Rattle.program.proofs.FirstReading.{Good, good, accepted-good}
+use Rattle.terms.specs.Bits.{packed}
 use Rattle.journal.specs.declared.Entry.{Entry}
 use Rattle.journal.specs.Journal.{entryOf, freshJournal, risesIn, risen, taken}
-use Rattle.hall.specs.declared.State.{State}
-use Rattle.hall.specs.declared.Scanned.{Scanned}
-use Rattle.hall.specs.declared.Handed.{Handed}
-use Rattle.hall.specs.State.{freshState, goodState}
+use Rattle.image.specs.declared.State.{State}
+use Rattle.calls.specs.declared.Scanned.{Scanned}
+use Rattle.calls.specs.declared.Handed.{Handed}
+use Rattle.image.specs.State.{freshState, goodState}
 use Rattle.scanning.specs.Scan.{Inputs, readBit, scanTo, stepsTo, alarmWord}
-use Rattle.hall.specs.Calls.{answered, scanOf, takeOf}
-use Rattle.hall.proofs.Figures.{steps-bounded}
+use Rattle.calls.specs.Calls.{answered, scanOf, takeOf}
+use Rattle.calls.proofs.Figures.{steps-bounded}
 use Rattle.promises.specs.History.{Call, scan, take, refusalOf, stateOf, stateAfter, entriesOf, handedOut, answeredOf, Past, freshPast, risesAt, placesThen, bitsThen, risesThen, pastScan, pastTake, pastCall, pastAfter, programOf}
 use Rattle.promises.specs.Demand1.{RefusedScan, Scanning, refuses-program, refuses-state, refuses-time, refuses-missed, answers, Taking, refuses, hands}
 use Rattle.promises.specs.Demand2.{ByTheRules, EveryRun}
@@ -68,7 +68,7 @@ module _ (p : Program) (few : length (p .alarms) ≤ 32) (x : Inputs) {s : State
         alarms = same-word;
         keeps =
             rw (same-word, same-rises, i .time)
-            (enters-all (i .keeps) (record { time = m .time + x .elapsed }) (risesAt 0 (m .bits) (bitsThen p x m)));
+            (enters-all (i .keeps) (stampOf x (m .time)) (risesAt 0 (m .bits) (bitsThen p x m)));
         counted = length-append (m .rises) (risesThen p x m) ∙ omega (arith, i .counted, all-more (m .ledger) (risesThen p x m));
       }
 
@@ -84,7 +84,7 @@ module _ (p : Program) (few : length (p .alarms) ≤ 32) (x : Inputs) {s : State
         figure = rw f (steps-bounded x p s);
         rises =
             rw (same-word, same-rises)
-            (sym (length-map (risesAt 0 (m .bits) (bitsThen p x m)) (entryOf (record { time = m .time + x .elapsed }))));
+            (sym (length-map (risesAt 0 (m .bits) (bitsThen p x m)) (entryOf (stampOf x (m .time)))));
       }
 
 -- ---- any call

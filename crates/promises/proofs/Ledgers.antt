@@ -14,25 +14,25 @@ use Rattle.journal.specs.declared.Entry.{Entry}
 use Rattle.journal.specs.declared.Stamp.{Stamp}
 use Rattle.journal.specs.declared.Journal.{Journal}
 use Rattle.journal.specs.declared.Taken.{Taken}
-use Rattle.wire.specs.Choice.{pick}
+use Rattle.terms.specs.Choice.{pick}
 use Rattle.journal.specs.Journal.{entryOf, zeroEntry, stored, storedAll, taken}
 use Rattle.promises.specs.History.{Ledger, entered, enteredAll, crossed}
-use Rattle.promises.specs.Demand3.{held}
+use Rattle.promises.specs.Demand3.{entriesHeld}
 
 -- `out` is what was handed out so far
 pub record Keeps (j : Journal) (l : Ledger) (out : List Entry) : Type 0 where
   pub long : length (j .entries) ≡ 32
   pub fit : j .held ≤ 32
-  pub order : out ++ held j ≡ l .kept
+  pub order : out ++ entriesHeld j ≡ l .kept
   pub taken : length out ≡ l .taken
   pub missed : j .missed ≡ length (l .missed)
 
 module _ {j : Journal} {l : Ledger} {out : List Entry} (k : Keeps j l out) where
-  pub held-long : length (held j) ≡ j .held
+  pub held-long : length (entriesHeld j) ≡ j .held
   held-long = length-take-le (j .held) (j .entries) (omega (arith, k .long, k .fit))
 
   pub kept-long : length (l .kept) ≡ l .taken + j .held
-  kept-long = ap length (sym (k .order)) ∙ length-append out (held j) ∙ omega (arith, k .taken, held-long)
+  kept-long = ap length (sym (k .order)) ∙ length-append out (entriesHeld j) ∙ omega (arith, k .taken, held-long)
 
   -- as many wait as are held
   waiting : length (l .kept) - l .taken ≡ j .held
@@ -54,7 +54,7 @@ module _ {j : Journal} {l : Ledger} {out : List Entry} (k : Keeps j l out) where
             order =
                 ap (λ (n : ℕ). out ++ take n (set (j .entries) (j .held) (entryOf t a))) (add-one (j .held))
                 ∙ ap (λ (x : List Entry). out ++ x) (take-suc-set (j .entries) (j .held) (entryOf t a) (omega (arith, k .long)))
-                ∙ sym (append-assoc out (held j) (entryOf t a ∷ [])) ∙ ap (λ (x : List Entry). x ++ (entryOf t a ∷ [])) (k .order);
+                ∙ sym (append-assoc out (entriesHeld j) (entryOf t a ∷ [])) ∙ ap (λ (x : List Entry). x ++ (entryOf t a ∷ [])) (k .order);
             taken = k .taken;
             missed = k .missed;
           })
@@ -129,7 +129,7 @@ hands {j} {l} {out} k = go (eqb (j .held) 0) refl
               (record {
                 long = k .long;
                 fit = k .fit;
-                order = ap (λ (x : List Entry). x ++ held j) (append-nil out) ∙ k .order;
+                order = ap (λ (x : List Entry). x ++ entriesHeld j) (append-nil out) ∙ k .order;
                 taken = ap length (append-nil out) ∙ k .taken;
                 missed = k .missed;
               });
@@ -143,7 +143,7 @@ hands {j} {l} {out} k = go (eqb (j .held) 0) refl
         let len : length (take (j .held - 1) (drop 1 (j .entries))) ≡ j .held - 1 = simp (length-take, length-drop) (omega (arith, k .long, k .fit)) in
         let head : Entry = getD (j .entries) 0 zeroEntry in
         let rest : List Entry = take (j .held - 1) (drop 1 (j .entries)) in
-        let same : held j ≡ head ∷ rest = ap (λ (n : ℕ). take n (j .entries)) (sym up) ∙ front (j .entries) (j .held - 1) (omega (arith, k .long, k .fit)) in
+        let same : entriesHeld j ≡ head ∷ rest = ap (λ (n : ℕ). take n (j .entries)) (sym up) ∙ front (j .entries) (j .held - 1) (omega (arith, k .long, k .fit)) in
         let all : l .kept ≡ out ++ (head ∷ rest) = sym (k .order) ∙ ap (λ (x : List Entry). out ++ x) same in
         let one : ltb (l .taken) (length (l .kept)) ≡ true = lt-ltb _ _ some in
         rw e

@@ -6,18 +6,20 @@ use mathlib.Core.List.{List, _∷_, map}
 use native.Mathlib.Omega.{arith}
 use lib.Dec.{lit<, ltb}
 use lib.ListN.{length, getD, List·getD-map}
-use Rattle.wire.proofs.Choice.{pick-case}
-use Rattle.block.specs.Blocks.{Content, bit, word, number, tree, Block, codeOf}
-use Rattle.block.specs.Kinds.{pin, blockCount, alarmCount, kindNumber, bitRef, limits, nothing, contentOf, kindOf, settingOf, typesOf}
-use Rattle.block.specs.Reading.{got, Known, typedAt, fieldsAt, blockAt}
-use Rattle.block.proofs.Expressions.{typed-below}
-use Rattle.block.proofs.Gives.{Gives, gives-by, gives-then, gives-after, Long, long-cons}
+use Rattle.terms.proofs.Choice.{pick-case}
+use Rattle.numbers.specs.Blocks.{Content, bit, word, number, tree, Block, codeOf, blockOf}
+use Rattle.numbers.specs.Types.{pin, blockCount, alarmCount, kindNumber, bitRef, limits, contentOf, settingOf}
+use Rattle.kinds.specs.Kinds.{nothing, kindOf, typesOf}
+use Rattle.wire.specs.Reading.{got}
+use Rattle.numbers.specs.Reading.{Marks, typedAt}
+use Rattle.block.specs.Reading.{fieldsAt, blockAt}
+use Rattle.numbers.proofs.Typed.{typed-below}
+use Rattle.wire.proofs.Gives.{Gives, gives-by, gives-then, gives-after, Long, long-cons}
 use Rattle.program.specs.Program.{Program, blocksAt, referencesAt, endAt, alarmsAt, programAt}
-use Rattle.running.specs.Running.{fieldOf}
-use Rattle.running.specs.Answers.{contents}
-use Rattle.running.proofs.Fields.{here, below, off-allowed}
+use Rattle.rules.specs.Rules.{fieldOf}
+use Rattle.rules.specs.Rows.{contents}
+use Rattle.rules.proofs.Fields.{here, below, off-allowed}
 use Rattle.running.proofs.Rows.{Said, said}
-use Rattle.scanning.specs.Scan.{blockOf}
 
 -- what the fields of a block that is no BL are: allowed numbers, and what these say
 abbrev pub Row : Block → Type 0
@@ -51,7 +53,7 @@ rows-cons : (b : Block) (bs : List Block) → Row b → Rows bs → Rows (b ∷ 
 rows-cons b bs h t zero = h
 rows-cons b bs h t (suc i) = t i
 
-module _ (k : Known) (s : List ℕ) where
+module _ (k : Marks) (s : List ℕ) where
   block-row : (at : ℕ) → Gives Row (blockAt k s at)
   unfolding blockAt
   block-row at =

@@ -7,11 +7,11 @@ use native.Mathlib.Omega.{arith}
 use borrow.Author.Tests.{ltb-true, ltb-false, eqb-true, eqb-false}
 use lib.Dec.{ltb, eqb}
 use Rattle.program.specs.Acceptance.{accepted}
-use Rattle.program.proofs.Faults.{Good, good, accepted-good}
-use Rattle.hall.specs.declared.State.{State}
-use Rattle.hall.specs.State.{goodState}
+use Rattle.program.proofs.FirstReading.{Good, good, accepted-good}
+use Rattle.image.specs.declared.State.{State}
+use Rattle.image.specs.State.{goodState, late}
 use Rattle.scanning.specs.Scan.{Inputs}
-use Rattle.hall.specs.Calls.{refusedScan, late, scanOf, takeOf}
+use Rattle.calls.specs.Calls.{refusedScan, scanOf, takeOf}
 use Rattle.promises.specs.Demand1.{RefusedScan, Scanning, refuses-program, refuses-state, refuses-time, refuses-missed, answers, Taking, refuses, hands}
 
 refused-so : (s : State) (n at : ℕ) → RefusedScan s n at (refusedScan s n at)

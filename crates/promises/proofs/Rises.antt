@@ -10,9 +10,9 @@ use lib.Pow.{shr-shr}
 use lib.ListN.{length, getD, drop, drop-of-length-le, List·getD-eq-default}
 use lib.Seq.{drop-cons}
 use borrow.Author.Tests.{ltb-true, ltb-false}
-use Rattle.wire.specs.Choice.{pick}
-use Rattle.rules.specs.Rules.{packed}
-use Rattle.journal.specs.Journal.{bitOf, risesFrom}
+use Rattle.terms.specs.Choice.{pick}
+use Rattle.terms.specs.Bits.{packed, bitOf}
+use Rattle.journal.specs.Journal.{risesFrom}
 use Rattle.journal.proofs.Bits.{uniq}
 use Rattle.promises.specs.History.{risesAt}
 

@@ -7,11 +7,13 @@ use native.Mathlib.Nat.{mod-lt}
 use lib.Dec.{leb}
 use lib.IntN.{ℤ}
 use borrow.Author.Tests.{leb-false}
-use Rattle.wire.specs.Choice.{pick}
-use Rattle.wire.proofs.Choice.{pick-case}
-use Rattle.rules.specs.declared.Place.{Place}
-use Rattle.rules.specs.Rules.{firstWas, rises, ticksIn, dl, os, fl, flTicks, og}
-use Rattle.rules.proofs.Times.{ticks-least, ticks-most}
+use Rattle.terms.specs.Choice.{pick}
+use Rattle.terms.proofs.Choice.{pick-case}
+use Rattle.place.specs.declared.Place.{Place}
+use Rattle.place.specs.Places.{firstWas, rises}
+use Rattle.timers.specs.Timers.{ticksIn, dl, os, fl, flTicks}
+use Rattle.analog.specs.Analog.{og}
+use Rattle.timers.proofs.Times.{ticks-least, ticks-most}
 
 -- "ticks over 6,553,399" are bad
 abbrev pub most : ℕ

@@ -3,10 +3,11 @@ use mathlib.Core.Bool.{true}
 use mathlib.Core.List.{List}
 use mathlib.Core.Path.{_≡_}
 use Prim.Native.Nat.{ℕ}
-use Rattle.hall.specs.declared.State.{State}
-use Rattle.hall.specs.State.{freshState, goodState}
+use Rattle.image.specs.declared.State.{State}
+use Rattle.image.specs.State.{freshState, goodState}
 use Rattle.scanning.specs.Scan.{Inputs}
-use Rattle.hall.specs.Calls.{badState, scanOf, takeOf}
+use Rattle.terms.specs.Refusals.{badState}
+use Rattle.calls.specs.Calls.{scanOf, takeOf}
 use Rattle.promises.specs.History.{Call, refusalOf, stateAfter}
 
 pub record Closure : Type 0 where

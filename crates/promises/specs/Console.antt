@@ -5,9 +5,10 @@ use mathlib.Core.List.{List, [], _∷_}
 use mathlib.Core.Path.{_≡_}
 use Prim.Native.Nat.{ℕ}
 use Rattle.scanning.specs.Scan.{Inputs}
-use Rattle.hall.specs.State.{freshState}
-use Rattle.hall.specs.Calls.{scanOf, takeOf}
-use Rattle.hall.specs.Images.{Image, sizedImage, imageOf, scanAnswer, takeAnswer, scannedIn, afterScan, takenIn, afterTake, afterFresh}
+use Rattle.image.specs.State.{freshState}
+use Rattle.calls.specs.Calls.{scanOf, takeOf}
+use Rattle.image.specs.Image.{Image, imageOf}
+use Rattle.calls.specs.InPlace.{scanAnswer, takeAnswer, scannedIn, afterScan, takenIn, afterTake}
 use Rattle.promises.specs.History.{Call, scan, take, stateAfter}
 
 module _ (bytes : List ℕ) where
@@ -21,7 +22,6 @@ module _ (bytes : List ℕ) where
   imageAfter i (c ∷ cs) = imageAfter (imageFor i c) cs
 
 pub record Console : Type 0 where
-  pub fresh : (i : Image) → sizedImage i ≡ true → afterFresh i ≡ imageOf freshState
   pub kept : (bytes : List ℕ) (cs : List Call) → imageAfter bytes (imageOf freshState) cs ≡ imageOf (stateAfter bytes freshState cs)
   pub scans :
       (bytes : List ℕ) (cs : List Call) (x : Inputs)

@@ -5,37 +5,38 @@ use mathlib.Core.Bool.{true, false}
 use mathlib.Core.List.{List}
 use mathlib.Core.Path.{_≡_}
 use Prim.Native.Nat.{ℕ, _+_, _-_, _^_, _<_, _≤_}
-use Rattle.block.specs.Refusals.{outside, astray, overMemory}
-use Rattle.block.specs.Reading.{got, fault}
+use Rattle.terms.specs.Refusals.{astray, overMemory, badState, tooFar}
+use Rattle.wire.specs.Reading.{got, fault}
+use Rattle.kinds.specs.Kinds.{memoryLimit}
 use Rattle.program.specs.declared.Acceptance.{Acceptance}
 use Rattle.program.specs.Program.{Program, programAt, memory, figure}
-use Rattle.program.specs.Acceptance.{refused, taken, everyBlock, knownOf, accepted}
+use Rattle.program.specs.Acceptance.{refused, granted, everyBlock, marksOf, accepted}
 use Rattle.program.specs.Places.{Placed}
 use Rattle.program.specs.References.{allThere}
 use Rattle.journal.specs.Journal.{zeroEntry, taken as takenFrom}
-use Rattle.hall.specs.declared.State.{State}
-use Rattle.hall.specs.declared.Scanned.{Scanned}
-use Rattle.hall.specs.declared.Handed.{Handed}
-use Rattle.hall.specs.State.{goodState}
+use Rattle.image.specs.declared.State.{State}
+use Rattle.calls.specs.declared.Scanned.{Scanned}
+use Rattle.calls.specs.declared.Handed.{Handed}
+use Rattle.image.specs.State.{goodState}
 use Rattle.scanning.specs.Scan.{Inputs}
-use Rattle.hall.specs.Calls.{badState, tooFar, answered, scanOf, handedBy, takeOf}
+use Rattle.calls.specs.Calls.{answered, scanOf, handedBy, takeOf}
 
 -- acceptance of a program
 pub data Accepting (s : List ℕ) (a : Acceptance) : Type 0 where
-  -- 1 and 2, "the first fault in reading order": the first reading, which lets every reference through, stops there
-  stops : (n at : ℕ) → programAt everyBlock s ≡ fault n at → n ≤ outside → Placed everyBlock s n at → a ≡ refused n at → Accepting s a
+  -- not 3: "the first fault in reading order": the first reading, which lets every reference through, stops there
+  stops : (n at : ℕ) → programAt everyBlock s ≡ fault n at → (n ≡ astray → ⊥) → Placed everyBlock s n at → a ≡ refused n at → Accepting s a
   -- 3, "first in reading order": the program was read, and has a reference that is astray
   strays :
       (p : Program) (end at : ℕ) → programAt everyBlock s ≡ got p end → allThere p ≡ false →
-      programAt (knownOf (p .blocks)) s ≡ fault astray at → Placed (knownOf (p .blocks)) s astray at → a ≡ refused astray at → Accepting s a
+      programAt (marksOf (p .blocks)) s ≡ fault astray at → Placed (marksOf (p .blocks)) s astray at → a ≡ refused astray at → Accepting s a
   -- 4, at place 0
   overflows :
       (p : Program) (end : ℕ) → programAt everyBlock s ≡ got p end → allThere p ≡ true →
-      5000 < memory (p .blocks) → a ≡ refused overMemory 0 → Accepting s a
+      memoryLimit < memory (p .blocks) → a ≡ refused overMemory 0 → Accepting s a
   -- none of these
   passes :
       (p : Program) (end : ℕ) → programAt everyBlock s ≡ got p end → allThere p ≡ true →
-      memory (p .blocks) ≤ 5000 → a ≡ taken (memory (p .blocks)) (figure (p .blocks)) → Accepting s a
+      memory (p .blocks) ≤ memoryLimit → a ≡ granted (memory (p .blocks)) (figure (p .blocks)) → Accepting s a
 
 -- "A refusal gives back the given state and zeros for alarm word, steps, rises and entry."
 pub record RefusedScan (s : State) (n at : ℕ) (a : Scanned) : Type 0 where

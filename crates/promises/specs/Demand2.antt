@@ -5,12 +5,13 @@ use Prim.Native.Nat.{ℕ, _+_, _≤_}
 use lib.ListN.{length}
 use Rattle.program.specs.Program.{Program}
 use Rattle.program.specs.Acceptance.{accepted}
-use Rattle.rules.specs.Rules.{packed}
-use Rattle.hall.specs.declared.State.{State}
-use Rattle.hall.specs.declared.Scanned.{Scanned}
-use Rattle.hall.specs.State.{freshState}
-use Rattle.scanning.specs.Scan.{Inputs, stepsTo}
-use Rattle.hall.specs.Calls.{scanOf}
+use Rattle.terms.specs.Bits.{packed}
+use Rattle.image.specs.declared.State.{State}
+use Rattle.calls.specs.declared.Scanned.{Scanned}
+use Rattle.image.specs.State.{freshState}
+use Rattle.scanning.specs.Scan.{Inputs}
+use Rattle.scanning.specs.Run.{stepsIn}
+use Rattle.calls.specs.Calls.{scanOf}
 use Rattle.promises.specs.History.{Call, stateAfter, answeredOf, Past, freshPast, placesThen, bitsThen, risesThen, pastAfter, programOf}
 
 -- a scan's answer is the rules': every output, word, timer and counter, the time, the alarm word, the steps, the rises
@@ -19,7 +20,7 @@ pub record ByTheRules (bytes : List ℕ) (p : Program) (x : Inputs) (m : Past) (
   pub time : a .state .time ≡ m .time + x .elapsed
   pub alarms : a .alarms ≡ packed (bitsThen p x m)
   pub last : a .state .alarms ≡ packed (bitsThen p x m)
-  pub steps : a .steps ≡ stepsTo x (p .blocks) (length (p .blocks)) (m .places)
+  pub steps : a .steps ≡ stepsIn x p (m .places)
   pub figure : a .steps ≤ accepted bytes .steps
   pub rises : a .rises ≡ length (risesThen p x m)
 

@@ -7,22 +7,22 @@ use lib.ListN.{length, getD, take}
 use Rattle.journal.specs.declared.Entry.{Entry}
 use Rattle.journal.specs.declared.Journal.{Journal}
 use Rattle.journal.specs.Journal.{zeroEntry}
-use Rattle.hall.specs.declared.State.{State}
-use Rattle.hall.specs.State.{freshState}
-use Rattle.hall.specs.Calls.{takeOf}
+use Rattle.image.specs.declared.State.{State}
+use Rattle.image.specs.State.{freshState}
+use Rattle.calls.specs.Calls.{takeOf}
 use Rattle.promises.specs.History.{Call, stateAfter, handedOut, answeredOf, Past, freshPast, pastAfter, programOf}
 
 -- the entries that a journal holds, oldest first
-abbrev pub held : Journal → List Entry
-held j = take (j .held) (j .entries)
+abbrev pub entriesHeld : Journal → List Entry
+entriesHeld j = take (j .held) (j .entries)
 
 pub record Demand3 (out : List Entry) (s : State) (m : Past) : Type 0 where
   -- "the rises in the history, counted from the bits the alarms name, are exactly the entries taken, held and the number missed"
   pub counted : length (m .rises) ≡ length out + s .journal .held + s .journal .missed
   -- "Taken then held are, in order, the rises that found one of 32 places free."
-  pub order : out ++ held (s .journal) ≡ m .ledger .kept
+  pub order : out ++ entriesHeld (s .journal) ≡ m .ledger .kept
   pub taken : length out ≡ m .ledger .taken
-  pub places : length (held (s .journal)) ≡ s .journal .held
+  pub places : length (entriesHeld (s .journal)) ≡ s .journal .held
   -- "A rise is missed exactly when 32 earlier ones were kept and not yet taken": as the ledger has it
   pub missed : s .journal .missed ≡ length (m .ledger .missed)
   -- "Each take hands out the oldest."

@@ -7,11 +7,11 @@ use lib.IntN.{ℤ, pos, negsuc}
 use lib.ListN.{replicate}
 use Rattle.wire.specs.Number.{groupsOf}
 use Rattle.program.specs.declared.Acceptance.{Acceptance}
-use Rattle.program.specs.Acceptance.{refused, taken, accepted}
-use Rattle.hall.specs.declared.State.{State}
-use Rattle.hall.specs.State.{freshState}
+use Rattle.program.specs.Acceptance.{refused, granted, accepted}
+use Rattle.image.specs.declared.State.{State}
+use Rattle.image.specs.State.{freshState}
 use Rattle.scanning.specs.Scan.{Inputs, placeOf}
-use Rattle.hall.specs.Calls.{scanOf}
+use Rattle.calls.specs.Calls.{scanOf}
 
 -- what is seen of a scan: the output and the word of block 0, and the steps
 pub record Seen : Type 0 where
@@ -58,7 +58,7 @@ p1 last = 0x01 ∷ 0x07 ∷ 0x02 ∷ 0x00 ∷ 0x02 ∷ 0x01 ∷ last
 abbrev pub examples : List Example
 examples =
     -- P1 `01 07 02 00 02 01 22`: accepted, memory 16, steps 1.
-    accepting (p1 (0x22 ∷ [])) (taken 16 1)
+    accepting (p1 (0x22 ∷ [])) (granted 16 1)
     -- P2 no bytes: 1 at 0.
     ∷ accepting [] (refused 1 0)
     -- P3 `00`: 2 at 0.

@@ -4,17 +4,18 @@ use mathlib.Core.List.{List, [], _∷_, _++_, map}
 use Prim.Native.Nat.{ℕ, suc, _+_, _-_}
 use lib.Dec.{ltb, eqb}
 use lib.ListN.{length, getD, replicate}
-use Rattle.wire.specs.Choice.{pick}
-use Rattle.block.specs.Reading.{Read, got, fault}
+use Rattle.terms.specs.Choice.{pick}
+use Rattle.wire.specs.Reading.{Read, got, fault}
 use Rattle.program.specs.Program.{Program, programAt}
 use Rattle.program.specs.Acceptance.{everyBlock}
-use Rattle.rules.specs.declared.Place.{Place}
-use Rattle.rules.specs.Rules.{freshPlace}
+use Rattle.place.specs.declared.Place.{Place}
+use Rattle.place.specs.Places.{freshPlace}
 use Rattle.journal.specs.declared.Entry.{Entry}
 use Rattle.journal.specs.Journal.{entryOf}
-use Rattle.hall.specs.declared.State.{State}
-use Rattle.scanning.specs.Scan.{Inputs, readBit, scanTo}
-use Rattle.hall.specs.Calls.{scanOf, takeOf}
+use Rattle.image.specs.declared.State.{State}
+use Rattle.scanning.specs.Scan.{Inputs, readBit}
+use Rattle.scanning.specs.Run.{placesAfter}
+use Rattle.calls.specs.Calls.{stampOf, scanOf, takeOf}
 
 -- ---- what the controller does
 
@@ -94,13 +95,13 @@ risesAt k last (b ∷ bits) = pick (b && not (getD last k false)) (k ∷ risesAt
 -- the places after a scan, the bits that the alarms name, and the rises "as (alarm number, time as just grown)"
 module _ (p : Program) (x : Inputs) (m : Past) where
   abbrev pub placesThen : List Place
-  placesThen = scanTo x (p .blocks) (length (p .blocks)) (m .places)
+  placesThen = placesAfter x p (m .places)
 
   abbrev pub bitsThen : List Bool
   bitsThen = map (readBit x placesThen) (p .alarms)
 
   abbrev pub risesThen : List Entry
-  risesThen = map (entryOf (record { time = m .time + x .elapsed })) (risesAt 0 (m .bits) bitsThen)
+  risesThen = map (entryOf (stampOf x (m .time))) (risesAt 0 (m .bits) bitsThen)
 
   unfoldable pub pastScan : Past
   pastScan =
