@@ -13,16 +13,9 @@ use numbers::WORD_PIN;
 ghost use mathlib.Core.Path.{_≡_};
 ghost use Prim.Native.Nat.{_<_};
 ghost use Rattle.numbers.specs.Types.{numberTypes, kindCount};
-ghost use Rattle.kinds.specs.Kinds.{figureFor, typesOf};
+ghost use Rattle.kinds.specs.Kinds.{typesOf};
 ghost use Rattle.block.specs.Reading.{fieldsAt, blockAt};
 ghost use Rattle.block.specs.Answers.{blankRow, emptyRow, fieldMore, rowOf, briefOf};
-
-// The step figure of a block of so many nodes.
-fn figure_of(nodes: u32) -> u32
-    ensures { λ r. ⌜ r ≡ figureFor nodes ⌝ }
-{
-    if nodes == 0 { 1 } else { nodes }
-}
 
 // The place after what was read, or a refusal and its place.
 pub enum End {
@@ -199,7 +192,7 @@ pub fn read_block(s: &[u8], at: usize, marks: &[u8; 200]) -> Brief
                 End::Fault(no, place) => Brief::Fault(no, place),
                 End::Next(after) => Brief::Got {
                     memory: kinds::memory_of(kind) + nodes,
-                    figure: figure_of(nodes),
+                    figure: kinds::figure_of(nodes),
                     mark: kinds::mark_of(kind),
                     next: after,
                 },

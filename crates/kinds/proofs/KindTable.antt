@@ -7,17 +7,18 @@ use native.Mathlib.Omega.{arith}
 use lib.Dec.{T, eqb, ltb, leb, ltb→lt, leb→le}
 use lib.ListN.{length, getD}
 use borrow.Author.Tests.{ne-eqb}
+use Rattle.numbers.specs.Types.{numberTypes, kindCount}
 use Rattle.kinds.specs.Kinds.{nothing, Kind, kind, kinds, kindOf, typesOf}
 use Rattle.terms.proofs.Table.{every, at}
 
 plain-type : ℕ → ℕ → Bool
-plain-type i x = ltb x 13
+plain-type i x = ltb x numberTypes
 
 no-word : (b : Bool) → T (not b) → false ≡ b
 no-word true t = absurd t
 no-word false t = refl
 
-module _ (k : ℕ) (h : k < 13) where
+module _ (k : ℕ) (h : k < kindCount) where
   -- a test that each kind passes, at kind k
   passes : (f : ℕ → Kind → Bool) → T (every f (kind [] 0 false) 0 kinds) → T (f k (kindOf k))
   unfolding kindOf
@@ -27,7 +28,7 @@ module _ (k : ℕ) (h : k < 13) where
   types-few = leb→le _ _ (passes (λ k r. leb (length (r .types)) 5) tt)
 
   -- no kind but BL has an expression
-  pub type-plain : 0 < k → (i : ℕ) → i < length (typesOf k) → getD (typesOf k) i nothing < 13
+  pub type-plain : 0 < k → (i : ℕ) → i < length (typesOf k) → getD (typesOf k) i nothing < numberTypes
   unfolding plain-type
   type-plain p i l =
       let t : T (eqb k 0 || every plain-type nothing 0 (typesOf k)) = passes (λ k r. eqb k 0 || every plain-type nothing 0 (r .types)) tt in

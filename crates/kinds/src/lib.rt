@@ -2,7 +2,7 @@
 ghost use mathlib.Core.Path.{_≡_};
 ghost use Prim.Native.Nat.{_<_};
 ghost use Rattle.numbers.specs.Types.{kindCount};
-ghost use Rattle.kinds.specs.Kinds.{kindOf, markFor};
+ghost use Rattle.kinds.specs.Kinds.{kindOf, figureFor, markFor};
 
 // The most memory that a program may use.
 pub const MEMORY_LIMIT: u32 = 5000;
@@ -27,6 +27,13 @@ pub fn memory_of(kind: u8) -> u32
         11 => 20,
         _ => 19,
     }
+}
+
+// The step figure of a block of so many nodes.
+pub fn figure_of(nodes: u32) -> u32
+    ensures { λ r. ⌜ r ≡ figureFor nodes ⌝ }
+{
+    if nodes == 0 { 1 } else { nodes }
 }
 
 // Whether a kind has a word output.

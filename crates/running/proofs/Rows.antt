@@ -12,7 +12,7 @@ use borrow.Author.Tests.{ne-eqb}
 use Rattle.terms.proofs.Choice.{pick-case}
 use Rattle.numbers.specs.Blocks.{Bit, Content, nodesIn, codeOf}
 use Rattle.kinds.specs.Kinds.{typesOf, expression, nothing}
-use Rattle.numbers.specs.Types.{pin, wordPin, allowed, contentOf, settingOf}
+use Rattle.numbers.specs.Types.{numberTypes, kindCount, pin, wordPin, allowed, contentOf, settingOf}
 use Rattle.wire.specs.Reading.{Read, got, fault, andThen}
 use Rattle.numbers.specs.Reading.{Marks, typedAt}
 use Rattle.block.specs.Reading.{contentAt, fieldsAt}
@@ -30,9 +30,9 @@ use Rattle.rules.specs.Rows.{allAllowed, contents}
 -- no type of a list is an expression
 pub data Plain : List ℕ → Type 0 where
   none : Plain []
-  more : {ty : ℕ} {ts : List ℕ} → ty < 13 → Plain ts → Plain (ty ∷ ts)
+  more : {ty : ℕ} {ts : List ℕ} → ty < numberTypes → Plain ts → Plain (ty ∷ ts)
 
-pub plain-by : (ts : List ℕ) → ((i : ℕ) → i < length ts → getD ts i nothing < 13) → Plain ts
+pub plain-by : (ts : List ℕ) → ((i : ℕ) → i < length ts → getD ts i nothing < numberTypes) → Plain ts
 plain-by [] h = none
 plain-by (ty ∷ ts) h = more (h 0 (omega arith)) (plain-by ts (λ i l. h (suc i) (omega arith)))
 
@@ -116,14 +116,14 @@ stored-held cs h =
 
 -- what was read of a row without an expression, by its own numbers
 pub said :
-    (k : Marks) (kind : ℕ) → kind < 13 → 0 < kind → (s : List ℕ) (at : ℕ) {cs : List Content} {next : ℕ} → fieldsAt k (typesOf kind) 0 s at ≡ got cs next →
+    (k : Marks) (kind : ℕ) → kind < kindCount → 0 < kind → (s : List ℕ) (at : ℕ) {cs : List Content} {next : ℕ} → fieldsAt k (typesOf kind) 0 s at ≡ got cs next →
     Said (typesOf kind) 0 0 (map codeOf cs) cs
 said k kind lt ne s at {cs} e =
     row k s (map codeOf cs) (plain-by (typesOf kind) (type-plain kind lt ne)) 0 0 at cs e
     (held-by cs 0 (map codeOf cs) (λ j p. let z : 0 + j ≡ j = omega arith in rw z))
 
 -- the row of a block that is no BL, as it was read
-module _ (k : Marks) (kind : ℕ) (lt : kind < 13) (ne : 0 < kind) (s : List ℕ) (at : ℕ) (r : Row) (e : r ≡ rowOf (fieldsAt k (typesOf kind) 0 s at)) where
+module _ (k : Marks) (kind : ℕ) (lt : kind < kindCount) (ne : 0 < kind) (s : List ℕ) (at : ℕ) (r : Row) (e : r ≡ rowOf (fieldsAt k (typesOf kind) 0 s at)) where
   pub record Ran (next : ℕ) : Type 0 where
     pub allow : allAllowed (typesOf kind) 0 0 (r .fields) ≡ true
     pub read : fieldsAt k (typesOf kind) 0 s at ≡ got (contents (typesOf kind) 0 (r .fields)) next

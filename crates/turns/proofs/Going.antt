@@ -1,22 +1,21 @@
 -- One more block of a run: the blocks read so far and what is left of them, and what the code keeps. Assumes nothing.
-use Prim.Native.Nat.{ℕ, zero, suc, _+_, _*_, _-_, _<_, _≤_}
+use Prim.Native.Nat.{ℕ, suc, _+_, _*_, _-_, _<_, _≤_}
 use mathlib.Core.Path.{_≡_, refl, sym, ap, _∙_}
 use mathlib.Core.Bool.{Bool, false, _&&_}
-use mathlib.Core.List.{List, [], _∷_, _++_, map, map-append, append-assoc, append-nil}
+use mathlib.Core.List.{List, [], _∷_, _++_, append-assoc, append-nil}
 use native.Mathlib.Omega.{arith}
 use native.Mathlib.Numerals.{add-one}
 use native.Mathlib.Nat.{sub-zero}
 use lib.Dec.{leb}
-use lib.ListN.{length, set, replicate, List·getD-append, length-append, length-map}
+use lib.ListN.{length, set, replicate, length-append}
 use Rattle.numbers.specs.Blocks.{Block, blockOf}
-use Rattle.kinds.specs.Kinds.{memoryLimit, markOf, memoryOf}
-use Rattle.wire.specs.Reading.{Read, got, fault, andThen}
+use Rattle.kinds.specs.Kinds.{memoryLimit}
+use Rattle.wire.specs.Reading.{Read, got, fault}
 use Rattle.numbers.specs.Reading.{Marks}
 use Rattle.block.specs.Reading.{blockAt}
-use Rattle.block.specs.Asking.{asking}
 use Rattle.block.specs.Answers.{briefOf}
 use Rattle.block.specs.declared.End.the-variants.{Next, Fault}
-use Rattle.block.proofs.Rows.{block-light}
+use Rattle.block.proofs.Weights.{block-light}
 use Rattle.program.specs.Program.{blocksAt, memory}
 use Rattle.program.specs.Acceptance.{marksOf}
 use Rattle.program.specs.Trial.{askedBy, allAnswer, passesTrial}
@@ -28,59 +27,7 @@ use Rattle.running.specs.declared.Turned.{Turned}
 use Rattle.turns.specs.Arrays.{Arrays, placeAt, storeAt, turnsTo, turnSteps, blocksWhile}
 use Rattle.turns.specs.Arrays.{ranOf}
 use Rattle.turns.proofs.Figures.{steps-figure}
-
--- more blocks do not change the turns of the first
-block-before : (bs cs : List Block) (i : ℕ) → i < length bs → blockOf (bs ++ cs) i ≡ blockOf bs i
-block-before bs cs i h = List·getD-append bs cs _ i h
-
-turns-before : (e : ℕ) (bs cs : List Block) (i : ℕ) (a : Arrays) → i ≤ length bs → turnsTo e (bs ++ cs) i a ≡ turnsTo e bs i a
-unfolding turnsTo
-turns-before e bs cs zero a h = refl
-turns-before e bs cs (suc i) a h = rw (turns-before e bs cs i a (omega arith), block-before bs cs i (omega arith))
-
-steps-before : (e : ℕ) (bs cs : List Block) (i : ℕ) (a : Arrays) → i ≤ length bs → turnSteps e (bs ++ cs) i a ≡ turnSteps e bs i a
-unfolding turnSteps
-steps-before e bs cs zero a h = refl
-steps-before e bs cs (suc i) a h =
-    rw (steps-before e bs cs i a (omega arith), turns-before e bs cs i a (omega arith), block-before bs cs i (omega arith))
-
--- the block after them
-block-after : (bs : List Block) (b : Block) → blockOf (bs ++ b ∷ []) (length bs) ≡ b
-block-after [] b = refl
-block-after (c ∷ bs) b = block-after bs b
-
-memory-after : (bs : List Block) (b : Block) → memory (bs ++ b ∷ []) ≡ memory bs + memoryOf b
-memory-after [] b = let e : memoryOf b + 0 ≡ 0 + memoryOf b = omega arith in e
-memory-after (c ∷ bs) b = let e = memory-after bs b in omega (arith, e)
-
-asked-after : (bs : List Block) (b : Block) (l : List ℕ) → askedBy (bs ++ b ∷ []) l ≡ asking (b .fields) (askedBy bs l)
-asked-after [] b l = refl
-asked-after (c ∷ bs) b l = asked-after bs b (asking (c .fields) l)
-
-mark-after : (l : List ℕ) (n m : ℕ) → set (l ++ replicate (suc n) 0) (length l) m ≡ (l ++ m ∷ []) ++ replicate n 0
-mark-after [] n m = refl
-mark-after (x ∷ l) n m = ap (λ (r : List ℕ). x ∷ r) (mark-after l n m)
-
-known-after : (bs : List Block) (b : Block) → length bs < 200 → set (marksOf bs) (length bs) (markOf b) ≡ marksOf (bs ++ b ∷ [])
-unfolding marksOf
-known-after bs b h =
-    let n : 200 - length bs ≡ suc (199 - length bs) = omega arith in
-    let l : length (map markOf bs) ≡ length bs = length-map bs markOf in
-    let m : 200 - length (bs ++ b ∷ []) ≡ 199 - length bs = omega (arith, length-append bs (b ∷ [])) in
-    let e = mark-after (map markOf bs) (199 - length bs) (markOf b) in
-    rw (n, m, map-append markOf bs (b ∷ [])) (rw l at e)
-
--- blocks that were read before others
-abbrev behind : List Block → Read (List Block) → Read (List Block)
-behind bs r = andThen r (λ cs end. got (bs ++ cs) end)
-
-behind-none : (r : Read (List Block)) → r ≡ behind [] r
-behind-none (got cs end) = refl
-behind-none (fault n at) = refl
-
-behind-one : (bs : List Block) (b : Block) (r : Read (List Block)) → behind bs (andThen r (λ cs end. got (b ∷ cs) end)) ≡ behind (bs ++ b ∷ []) r
-behind-one bs b (got cs end) = ap (λ (l : List Block). got l end) (sym (append-assoc bs (b ∷ []) cs))
-behind-one bs b (fault n at) = refl
+use Rattle.turns.proofs.Behind.{turns-before, steps-before, block-after, memory-after, asked-after, known-after, behind, behind-none, behind-one}
 
 -- A run after i blocks, from the arrays a on.
 pub record Going (e : ℕ) (k : Marks) (n : ℕ) (s : List ℕ) (start : ℕ) (a here : Arrays) (marks asked : List ℕ) (steps weight at i : ℕ) : Type 0 where

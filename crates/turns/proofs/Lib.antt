@@ -1,3 +1,4 @@
+pub mod Behind
 pub mod Going
 pub mod Answering
 pub mod Figures

@@ -1,5 +1,6 @@
 -- `block::read_block` meets its contract: its kind, and then its row.
-use Rattle.block.proofs.Rows.{row-full, row-stopped, block-full, block-stopped, row-light}
+use Rattle.block.proofs.Rows.{row-full, row-stopped, block-full, block-stopped}
+use Rattle.block.proofs.Weights.{row-light}
 use Rattle.kinds.proofs.KindTable.{memory-light}
 use Rattle.numbers.proofs.Typed.{typed-below}
 use Rattle.numbers.proofs.Answers.{typed-got, typed-fault}
@@ -26,7 +27,7 @@ read-block-spec =
     (λ c. search needs)
     (λ c. search needs)
     (λ c κs. typed-below _ _ _ _ _ (typed-got _ _ _ _ _ (sym (c .before .before .before .before .before .before .before .read-number .ensures) ∙ c .before .before .before .before .before .n2 .given .1)))
-    (λ c. let e = typed-got _ _ _ _ _ (sym (c .before .before .before .before .before .before .before .before .read-number .ensures) ∙ c .before .before .before .before .before .before .n2 .given .1) in let l = typed-below _ _ _ _ _ e in omega (arith, c .memory-of .ensures, memory-light _ l, row-light _ _ _ e l (row-full _ _ _ _ _ _ (c .before .before .before .before .read-row .ensures) (c .before .before .end2 .given .1))))
+    (λ c. let e = typed-got _ _ _ _ _ (sym (c .before .before .before .before .before .before .before .before .read-number .ensures) ∙ c .before .before .before .before .before .before .n2 .given .1) in let l = typed-below _ _ _ _ _ e in omega (arith, c .memory-of .ensures, memory-light _ l, row-light _ _ _ _ l (row-full _ _ _ _ _ _ (c .before .before .before .before .read-row .ensures) (c .before .before .end2 .given .1))))
     (λ c κs. search needs)
     (λ c κs. typed-below _ _ _ _ _ (typed-got _ _ _ _ _ (sym (c .before .before .before .before .before .before .before .before .before .read-number .ensures) ∙ c .before .before .before .before .before .before .before .n2 .given .1)))
     returns

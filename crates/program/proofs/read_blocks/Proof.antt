@@ -3,7 +3,7 @@ use native.Mathlib.Nat.{sub-zero}
 use Rattle.program.proofs.Blocks.{blocks-got, blocks-stop, blocks-end}
 use Rattle.program.specs.Answers.{blocksRead, readFrom}
 use Rattle.program.specs.Program.{blocksAt}
-use Rattle.block.proofs.Rows.{block-light}
+use Rattle.block.proofs.Weights.{block-light}
 use borrow.Author.Needs.{needs}
 use lib.ListN.{length, length-set}
 use native.Mathlib.Omega.{arith}

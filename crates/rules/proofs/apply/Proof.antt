@@ -1,6 +1,7 @@
 -- `rules::apply` meets its contract: each kind goes its own way, and the last is ST.
 use Prim.Native.Nat.{zero-le, _≤_, _<_}
 use mathlib.Core.Path.{_≡_}
+use Rattle.numbers.specs.Types.{kindCount}
 use Rattle.rules.proofs.Fields.{no-row, past, only}
 use Rattle.rules.proofs.apply.Statement.{statement}
 use Rattle.rules.proofs.apply.Tie as tie
@@ -11,7 +12,7 @@ last c =
     let r = c .match .rest in
     let no-bl : c .before .args .kind ≡ 0 → ⊥ = λ z. no-row (c .before .args .f) (rw z at (c .before .pre .1)) in
     let h : 12 ≤ c .before .args .kind = past (past (past (past (past (past (past (past (past (past (past (past zero-le no-bl) (r .0 .0 .0 .0 .0 .0 .0 .0 .0 .0 .1)) (r .0 .0 .0 .0 .0 .0 .0 .0 .0 .1)) (r .0 .0 .0 .0 .0 .0 .0 .0 .1)) (r .0 .0 .0 .0 .0 .0 .0 .1)) (r .0 .0 .0 .0 .0 .0 .1)) (r .0 .0 .0 .0 .0 .1)) (r .0 .0 .0 .0 .1)) (r .0 .0 .0 .1)) (r .0 .0 .1)) (r .0 .1)) (r .1) in
-    let l : c .before .args .kind < 13 = c .before .pre .0 in
+    let l : c .before .args .kind < kindCount = c .before .pre .0 in
     only h l
 
 pub apply-spec : {M : Type 1} → statement M

@@ -1,8 +1,8 @@
--- `block::figure_of` meets its contract, by its test.
+-- `kinds::figure_of` meets its contract, by its test.
 use Rattle.kinds.specs.Kinds.{figureFor}
 use borrow.Author.Tests.{eq-eqb, ne-eqb}
-use Rattle.block.proofs.figure_of.Statement.{statement}
-use Rattle.block.proofs.figure_of.Tie as tie
+use Rattle.kinds.proofs.figure_of.Statement.{statement}
+use Rattle.kinds.proofs.figure_of.Tie as tie
 
 returns : tie.Need-returns
 unfolding figureFor
