@@ -2,7 +2,7 @@
 use mathlib.Core.Path.{_≡_}
 use mathlib.Core.List.{List}
 use Prim.Native.Nat.{ℕ, _+_}
-use lib.ListN.{length, take}
+use lib.ListN.{length}
 use lib.Seq.{sets}
 use Rattle.playback.specs.Playback.{Told, Opening}
 use Rattle.playback.specs.declared.Stepped.{Stepped}
@@ -17,8 +17,9 @@ pub record Wrote (t : Told) (l : List ℕ) (to : ℕ) (m : List ℕ) (r : Steppe
   pub bytes : m ≡ sets l to (t .text)
   pub answer : r ≡ steppedIn to t
 
--- what comes before the scans was written over l from the front, and r is the answer; the program stands at the front of p
-pub record Opens (o : Opening) (p l m : List ℕ) (r : Opened) : Type 0 where
+-- what comes before the scans: its program was written over p from the front, which made it q, its text over l, which made it m, and r is the
+-- answer
+pub record Opens (o : Opening) (p q l m : List ℕ) (r : Opened) : Type 0 where
   pub bytes : m ≡ sets l 0 (o .text)
-  pub program : take (r .size) p ≡ o .program
+  pub program : q ≡ sets p 0 (o .program)
   pub answer : r ≡ record { size = length (o .program); next = o .next; to = length (o .text); more = o .more }

@@ -106,7 +106,7 @@ pub struct Opened {
 // Opens a recording: copies its program out and accepts it.
 pub fn open_recording(s: &[u8], program: &mut [u8], out: &mut [u8]) -> Opened
     requires { ⌜ (programBytes ≤ length (now program)) × (lineBytes ≤ length (now out)) ⌝ }
-    ensures { λ r. ⌜ Opens (opening (now (s .entry))) (now (program .exit)) (now (out .entry)) (now (out .exit)) r ⌝ }
+    ensures { λ r. ⌜ Opens (opening (now (s .entry))) (now (program .entry)) (now (program .exit)) (now (out .entry)) (now (out .exit)) r ⌝ }
 {
     let h = recording::read_head(s);
     match h {

@@ -4,8 +4,8 @@ use mathlib.Core.Path.{_≡_, refl, ap, _∙_}
 use mathlib.Core.List.{List, [], _∷_, _++_, append-assoc}
 use native.Mathlib.Nat.{add-zero, pow-suc, one-le-pow, pow-le-pow-right, mod-lt, mod-eq-of-lt}
 use native.Mathlib.Omega.{arith, by-contra}
-use lib.ListN.{length, set, take, length-append}
-use lib.Seq.{sets, sets-eq, length-sets, take-at}
+use lib.ListN.{length, set, length-append}
+use lib.Seq.{sets, length-sets}
 use lib.Dec.{ltb}
 use borrow.Author.Tests.{lt-ltb, le-ltb}
 use Rattle.terms.proofs.Choice.{pick-case}
@@ -85,7 +85,3 @@ digits-short (suc k) n =
 
 pub put-small : (n e : ℕ) {l : List ℕ} {i : ℕ} {m : List ℕ} {j : ℕ} → Put (decimal n ++ (e ∷ [])) l i m j → (j ≤ i + 21) × (length m ≡ length l)
 put-small n e p = (omega (arith, p .place, length-append (decimal n) (e ∷ []), digits-short 20 n), put-length p)
-
--- the front of a list over which a text was written
-pub put-front : {xs l m : List ℕ} {j : ℕ} (n : ℕ) → Put xs l 0 m j → length xs ≡ n → n ≤ length l → take n m ≡ xs
-put-front {xs} {l} n p e h = rw (p .bytes ∙ sets-eq xs l 0 (omega arith)) (take-at xs _ n e)

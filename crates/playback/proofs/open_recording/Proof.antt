@@ -23,11 +23,10 @@ returns c =
     let copied = judged .before .before .before .before in
     let headed = copied .before .before .before .before in
     let read = headed .before .before in
-    let start = read .before .before .before .before in
     let n = headed .h .given .0 .0 in
     let at = headed .h .given .0 .1 .0 in
     let e : at + n - at ≡ n = omega arith in
-    opens-refused _ (sym (read .read-head .ensures) ∙ headed .h .given .1) (rw e at (copied .put2 .ensures)) (start .pre .0)
+    opens-refused _ (sym (read .read-head .ensures) ∙ headed .h .given .1) (rw e at (copied .put2 .ensures))
     (rw e at (judged .accept .ensures)) (tested .if1 .taken) (refused .write-refused .ensures)
 
 returns-2 : tie.Need-returns-2
@@ -42,11 +41,10 @@ returns-3 c =
     let copied = judged .before .before .before .before in
     let headed = copied .before .before .before .before in
     let read = headed .before .before in
-    let start = read .before .before .before .before in
     let n = headed .h .given .0 .0 in
     let at = headed .h .given .0 .1 .0 in
     let e : at + n - at ≡ n = omega arith in
-    opens-good _ (sym (read .read-head .ensures) ∙ headed .h .given .1) (rw e at (copied .put2 .ensures)) (start .pre .0)
+    opens-good _ (sym (read .read-head .ensures) ∙ headed .h .given .1) (rw e at (copied .put2 .ensures))
     (rw e at (judged .accept .ensures)) (c .if1 .left)
 
 pub open-recording-spec : {M : Type 1} → statement M

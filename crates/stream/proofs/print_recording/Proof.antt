@@ -13,18 +13,26 @@ use Rattle.stream.proofs.print_recording.Tie as tie
 small :
     (b : tie.After-open-recording) → let o = b .open-recording in
     let rf = b .before .before .before .before .before .before .before .read-full in
-    ((o .result .size ≡ length (take (o .result .size) (o .last .1 .0))) × (o .result .size ≤ length (o .last .1 .0)))
+    (o .result .size ≤ length (o .last .1 .0))
     × ((o .result .next ≤ length (take (rf .result) (rf .last .1 .0))) × (o .result .to ≤ length (o .last .1 .1 .0)))
 small b =
     let filled = b .before .before .before .before .before .before .before in
     let start = filled .before .before .before .before in
-    opens-small (take (filled .read-full .result) (filled .read-full .last .1 .0)) (b .open-recording .ensures) (omega (arith, start .pre))
+    opens-small (take (filled .read-full .result) (filled .read-full .last .1 .0)) (b .open-recording .ensures)
+    (omega (arith, b .before .before .before .before .no-program .ensures)) (omega (arith, start .pre))
 
 told : tie.Need-slice-aggregate-write-all
 told c =
     let b = c .before .before .before .before .before .before in
     let o = b .open-recording in
     sym (length-take-le (o .result .to) (o .last .1 .1 .0) (small b .1 .1))
+
+-- the program that was copied
+copied : tie.Need-slice-aggregate-play
+copied c =
+    let b = c .before .before .before .before .before .before .before in
+    let o = b .open-recording in
+    sym (length-take-le (o .result .size) (o .last .1 .0) (small b .0))
 
 play-requires : tie.Need-play-requires
 play-requires c κs =
@@ -58,8 +66,8 @@ print-recording-spec =
     (λ c. search needs)
     (λ c. search needs)
     (λ c. search needs)
-    (λ c. small (c .before .before .before .before .before .before) .0 .1)
-    (λ c. small (c .before .before .before .before .before .before .before) .0 .0)
+    (λ c. small (c .before .before .before .before .before .before) .0)
+    copied
     play-requires
     (λ c. search needs)
     played
