@@ -1,7 +1,7 @@
 -- What a console keeps is the image of a state: by the calls, one after another. Assumes nothing.
 use Prim.Native.Nat.{ℕ, _^_, _<_, _≤_}
-use mathlib.Core.Path.{_≡_, refl, sym, ap, subst, _∙_}
-use mathlib.Core.Bool.{true, not}
+use mathlib.Core.Path.{_≡_, refl}
+use mathlib.Core.Bool.{not}
 use mathlib.Core.List.{List, [], _∷_, map}
 use native.Mathlib.Omega.{arith}
 use lib.Dec.{eqb}
@@ -15,7 +15,7 @@ use Rattle.scanning.specs.Scan.{Inputs, readBit, scanTo, alarmWord}
 use Rattle.image.specs.declared.State.{State}
 use Rattle.calls.specs.declared.Scanned.{Scanned}
 use Rattle.image.specs.State.{freshState, goodState, late}
-use Rattle.calls.specs.Calls.{answered, answerOf, scanOf, takeOf}
+use Rattle.calls.specs.Calls.{answered, answerOf, scanOf}
 use Rattle.place.specs.Places.{freshPlace}
 use Rattle.journal.specs.Journal.{freshJournal, zeroEntry}
 use Rattle.image.specs.Image.{imageOf}

@@ -7,5 +7,6 @@ pub mod GoodJournal
 pub mod Closed
 pub mod Rises
 pub mod Ledgers
+pub mod Steps
 pub mod Histories
 pub mod Consoles

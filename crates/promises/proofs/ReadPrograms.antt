@@ -8,7 +8,7 @@ use lib.Dec.{lit<, ltb}
 use lib.ListN.{length, getD, List·getD-map}
 use Rattle.terms.proofs.Choice.{pick-case}
 use Rattle.numbers.specs.Blocks.{Content, bit, word, number, tree, Block, codeOf, blockOf}
-use Rattle.numbers.specs.Types.{pin, blockCount, alarmCount, kindNumber, bitRef, limits, contentOf, settingOf}
+use Rattle.numbers.specs.Types.{kindCount, pin, blockCount, alarmCount, kindNumber, bitRef, limits, contentOf, settingOf}
 use Rattle.kinds.specs.Kinds.{nothing, kindOf, typesOf}
 use Rattle.wire.specs.Reading.{got}
 use Rattle.numbers.specs.Reading.{Marks, typedAt}
@@ -57,7 +57,7 @@ module _ (k : Marks) (s : List ℕ) where
   block-row : (at : ℕ) → Gives Row (blockAt k s at)
   unfolding blockAt
   block-row at =
-      gives-then (λ v. v < 13) Row (typedAt k kindNumber 0 s at) _ (gives-by _ (typedAt k kindNumber 0 s at) (λ v n e. typed-below k kindNumber 0 s at e))
+      gives-then (λ v. v < kindCount) Row (typedAt k kindNumber 0 s at) _ (gives-by _ (typedAt k kindNumber 0 s at) (λ v n e. typed-below k kindNumber 0 s at e))
       (λ v n lt. gives-then (λ cs. Row (record { kind = v; fields = cs })) Row (fieldsAt k (typesOf v) 0 s n) _
       (gives-by _ (fieldsAt k (typesOf v) 0 s n) (λ cs end e ne. said k v lt ne s n e)) (λ cs end h. h))
 

@@ -1,6 +1,5 @@
 -- The library's calls over a run: what a console keeps is the image of a state, call by call, and what it is answered is what the calls by value
 -- answer. So the demands hold of it.
-use mathlib.Core.Bool.{true}
 use mathlib.Core.List.{List, [], _∷_}
 use mathlib.Core.Path.{_≡_}
 use Prim.Native.Nat.{ℕ}

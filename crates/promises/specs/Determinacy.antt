@@ -42,18 +42,17 @@ use Rattle.inspection.proofs.good.Reads as inspection-good
 use Rattle.inspection.proofs.is_late.Reads as inspection-is-late
 use Rattle.logbook.proofs.close.Reads as logbook-close
 use Rattle.logbook.proofs.hand_out.Reads as logbook-hand-out
-use Rattle.loading.proofs.load_bits.Reads as loading-load-bits
-use Rattle.loading.proofs.load_words.Reads as loading-load-words
-use Rattle.loading.proofs.load_ticks.Reads as loading-load-ticks
-use Rattle.loading.proofs.load_pins.Reads as loading-load-pins
-use Rattle.storing.proofs.store_ticks.Reads as storing-store-ticks
-use Rattle.storing.proofs.store_words.Reads as storing-store-words
-use Rattle.storing.proofs.store_pins.Reads as storing-store-pins
-use Rattle.storing.proofs.store_outputs.Reads as storing-store-outputs
+use Rattle.copies.proofs.copy_ticks.Reads as copies-copy-ticks
+use Rattle.copies.proofs.copy_pins.Reads as copies-copy-pins
+use Rattle.copies.proofs.load_bits.Reads as copies-load-bits
+use Rattle.copies.proofs.load_words.Reads as copies-load-words
+use Rattle.copies.proofs.store_words.Reads as copies-store-words
+use Rattle.copies.proofs.store_outputs.Reads as copies-store-outputs
 use Rattle.numbers.proofs.read_number.Reads as numbers-read-number
 use Rattle.nodes.proofs.head.Reads as nodes-head
 use Rattle.nodes.proofs.pass.Reads as nodes-pass
 use Rattle.kinds.proofs.memory_of.Reads as kinds-memory-of
+use Rattle.kinds.proofs.figure_of.Reads as kinds-figure-of
 use Rattle.kinds.proofs.mark_of.Reads as kinds-mark-of
 use Rattle.block.proofs.read_row.Reads as block-read-row
 use Rattle.block.proofs.read_block.Reads as block-read-block
@@ -145,18 +144,17 @@ pub record Determinacy : Type 0 where
   pub inspection-is-late : Determined inspection-is-late.Learnt
   pub logbook-close : DeterminedWith (λ κ u. logFrom (u .1 .1)) logbook-close.Learnt
   pub logbook-hand-out : DeterminedWith (λ κ u. logFrom u) logbook-hand-out.Learnt
-  pub loading-load-bits : Determined loading-load-bits.Learnt
-  pub loading-load-words : Determined loading-load-words.Learnt
-  pub loading-load-ticks : Determined loading-load-ticks.Learnt
-  pub loading-load-pins : Determined loading-load-pins.Learnt
-  pub storing-store-ticks : DeterminedWith (λ κ u. now (u .1 .1 .0)) storing-store-ticks.Learnt
-  pub storing-store-words : DeterminedWith (λ κ u. now (u .1 .1 .0)) storing-store-words.Learnt
-  pub storing-store-pins : DeterminedWith (λ κ u. now (u .1 .1 .0)) storing-store-pins.Learnt
-  pub storing-store-outputs : DeterminedWith (λ κ u. now (u .1 .1 .0)) storing-store-outputs.Learnt
+  pub copies-copy-ticks : DeterminedWith (λ κ u. now (u .1 .1 .0)) copies-copy-ticks.Learnt
+  pub copies-copy-pins : DeterminedWith (λ κ u. now (u .1 .1 .0)) copies-copy-pins.Learnt
+  pub copies-load-bits : DeterminedWith (λ κ u. now (u .1 .1 .1 .0)) copies-load-bits.Learnt
+  pub copies-load-words : DeterminedWith (λ κ u. now (u .1 .1 .1 .0)) copies-load-words.Learnt
+  pub copies-store-words : DeterminedWith (λ κ u. now (u .1 .1 .0)) copies-store-words.Learnt
+  pub copies-store-outputs : DeterminedWith (λ κ u. now (u .1 .1 .0)) copies-store-outputs.Learnt
   pub numbers-read-number : Determined numbers-read-number.Learnt
   pub nodes-head : Determined nodes-head.Learnt
   pub nodes-pass : Determined nodes-pass.Learnt
   pub kinds-memory-of : Determined kinds-memory-of.Learnt
+  pub kinds-figure-of : Determined kinds-figure-of.Learnt
   pub kinds-mark-of : Determined kinds-mark-of.Learnt
   pub block-read-row : Determined block-read-row.Learnt
   pub block-read-block : Determined block-read-block.Learnt

@@ -16,9 +16,9 @@ use Rattle.analog.specs.Analog.{og, same, scaled, st}
 use Rattle.counters.specs.Counters.{ud, udWord}
 use Rattle.rules.specs.Rules.{ruleOf, ruled}
 use Rattle.journal.specs.Journal.{empty, freshJournal, goodJournal, noStamp, numbered, risen, risesFrom, storedAll}
-use Rattle.image.specs.State.{freshState, goodPlace, goodState}
+use Rattle.image.specs.State.{freshState, goodPlace, goodState, late}
 use Rattle.scanning.specs.Scan.{alarmWord, scanTo, stepsTo}
-use Rattle.calls.specs.Calls.{answered, late, scanOf}
+use Rattle.calls.specs.Calls.{answered, scanOf}
 use Rattle.promises.specs.Examples.{seenIn, examples, AllShown}
 use Rattle.promises.proofs.worked_examples.Statement.{statement}
 use Rattle.promises.proofs.worked_examples.Tie as tie
