@@ -9,7 +9,7 @@ use borrow.Author.Tests.{ltb-false}
 use Rattle.terms.specs.Refusals.{badState, tooFar}
 use Rattle.terms.proofs.Choice.{both}
 use Rattle.program.specs.Acceptance.{accepted}
-use Rattle.image.specs.Image.{Columns, Image, image, columnsOf, timeIn, missedIn, isImage, goodImage, stateIn, imageOf}
+use Rattle.image.specs.Image.{Image, image, columnsOf, timeIn, missedIn, isImage, goodImage, stateIn}
 use Rattle.image.specs.State.{goodState, late}
 use Rattle.image.specs.Lent.{SizedColumns}
 use Rattle.image.proofs.Images.{image-parts}

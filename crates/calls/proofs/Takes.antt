@@ -1,6 +1,6 @@
 -- A take from an image, by its refusal and by its answer. Assumes nothing.
 use Prim.Native.Nat.{ℕ, _≤_}
-use mathlib.Core.Path.{_≡_, refl, sym, ap, _∙_}
+use mathlib.Core.Path.{_≡_, refl, sym, ap}
 use mathlib.Core.Bool.{Bool, true, false}
 use native.Mathlib.Omega.{arith}
 use lib.Dec.{leb}
@@ -13,8 +13,7 @@ use Rattle.image.specs.Image.{Image, image, journalIn, isImage, goodImage, stat
 use Rattle.image.specs.State.{goodPlace, goodState}
 use Rattle.image.specs.Lent.{SizedColumns}
 use Rattle.image.proofs.Images.{image-parts, columns-again}
-use Rattle.logbook.specs.Logbook.{oldest, logTaken}
-use Rattle.calls.specs.declared.TakeAnswer.{TakeAnswer}
+use Rattle.logbook.specs.Logbook.{logTaken}
 use Rattle.calls.specs.Calls.{takeOf, handedBy}
 use Rattle.calls.specs.InPlace.{refusedTaken, takeAnswer, takenIn, afterTake}
 use Rattle.calls.proofs.Scans.{GoodImage}

@@ -1,5 +1,5 @@
 -- Document 01: the whole answer of a scan and of a take, refusals included.
-use mathlib.Core.Bool.{Bool, false, not}
+use mathlib.Core.Bool.{false, not}
 use mathlib.Core.List.{List}
 use Prim.Native.Nat.{ℕ, _+_}
 use lib.Dec.{eqb}

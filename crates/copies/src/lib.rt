@@ -92,8 +92,8 @@ pub fn load_words(n: u32, analogs: [i16; 8], words: &[i16; 200], to: &mut [i16; 
     let count = n as usize;
     let mut i: usize = 0;
     while i < count {
-        let a = o[i];
-        to[i + 8] = a;
+        let word = o[i];
+        to[i + 8] = word;
         i += 1;
     }
 }
@@ -107,8 +107,8 @@ pub fn store_words(n: u32, words: &[i16; 208], to: &mut [i16; 200])
     let count = n as usize;
     let mut i: usize = 0;
     while i < count {
-        let a = w[i + 8];
-        to[i] = a;
+        let word = w[i + 8];
+        to[i] = word;
         i += 1;
     }
 }

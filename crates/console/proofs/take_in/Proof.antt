@@ -2,7 +2,7 @@
 use Rattle.calls.proofs.Scans.{good-parts}
 use Rattle.calls.proofs.Takes.{no-take, few, by-take, image-taken}
 use borrow.Author.Tests.{not-true, not-false}
-use mathlib.Core.Path.{_≡_, sym, _∙_}
+use mathlib.Core.Path.{sym, _∙_}
 use borrow.Author.Needs.{needs}
 use Rattle.console.proofs.take_in.Statement.{statement}
 use Rattle.console.proofs.take_in.Tie as tie

@@ -3,11 +3,11 @@ use Prim.Native.Nat.{_^_, _<_}
 use mathlib.Core.Path.{_≡_, ap, subst, _∙_}
 use borrow.Author.Needs.{needs}
 use Rattle.journal.proofs.Places.{length-mapped}
-use Rattle.image.specs.Image.{Image, alarmsIn, stateIn, imageOf}
+use Rattle.image.specs.Image.{Image, alarmsIn, stateIn}
 use Rattle.scanning.specs.Scan.{Inputs, inputs}
 use Rattle.calls.specs.declared.ScanAnswer.{ScanAnswer}
 use Rattle.calls.specs.Calls.{scanOf}
-use Rattle.calls.specs.InPlace.{scanAnswer, scannedIn, afterScan}
+use Rattle.calls.specs.InPlace.{scanAnswer}
 use Rattle.calls.proofs.Figures.{scan-bounded}
 use Rattle.calls.proofs.Whole.{Whole}
 use Rattle.calls.proofs.States.{scan-of-image, after-scan, alarms-fit}

@@ -1,6 +1,6 @@
 -- `hall::take` meets its contract: the state is put into arrays, a take from them is the take from the state, and they are the state after it.
 use Prim.Native.Nat.{_^_, _<_}
-use mathlib.Core.Path.{_≡_, ap, _∙_}
+use mathlib.Core.Path.{ap, _∙_}
 use borrow.Author.Needs.{needs}
 use Rattle.journal.proofs.Places.{length-mapped}
 use Rattle.image.specs.Image.{Image, alarmsIn, stateIn}

@@ -2,6 +2,7 @@
 use borrow.Author.Tests.{not-true, not-false}
 use mathlib.Core.Path.{_≡_}
 use mathlib.Core.Bool.{true, false}
+use native.Mathlib.Omega.{arith}
 use borrow.Author.Needs.{needs}
 use Rattle.scanning.proofs.run_counted.Statement.{statement}
 use Rattle.scanning.proofs.run_counted.Tie as tie
@@ -24,7 +25,7 @@ returns c =
     (e, rw (← e, g))
 
 store-words-requires : tie.Need-store-words-requires
-store-words-requires c κs = start (c .before .before .before .before .before .before .before) .pre
+store-words-requires c κs = omega (arith, start (c .before .before .before .before .before .before .before) .pre)
 
 copy-pins-requires-2 : tie.Need-copy-pins-requires-2
 copy-pins-requires-2 c κs = start (c .before .before .before .before .before .before .before .before .before .before) .pre
