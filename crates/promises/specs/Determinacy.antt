@@ -61,6 +61,7 @@ use Rattle.expression.proofs.eval.Reads as expression-eval
 use Rattle.rules.proofs.apply.Reads as rules-apply
 use Rattle.running.proofs.turn.Reads as running-turn
 use Rattle.turns.proofs.turns.Reads as turns-turns
+use Rattle.trial.proofs.refused.Reads as trial-refused
 use Rattle.trial.proofs.try_program.Reads as trial-try-program
 use Rattle.scanning.proofs.run.Reads as scanning-run
 use Rattle.calls.proofs.refuse_after.Reads as calls-refuse-after
@@ -163,6 +164,7 @@ pub record Determinacy : Type 0 where
   pub rules-apply : Determined rules-apply.Learnt
   pub running-turn : DeterminedWith (λ κ u. now (u .1 .1 .1 .1 .1 .1 .1 .0)) running-turn.Learnt
   pub turns-turns : DeterminedWith (λ κ u. arraysFrom (u .1 .1 .1 .1 .1)) turns-turns.Learnt
+  pub trial-refused : Determined trial-refused.Learnt
   pub trial-try-program : DeterminedWith (λ κ u. arraysFrom (u .1 .1 .1 .1)) trial-try-program.Learnt
   pub scanning-run : DeterminedWith (λ κ u. columnsFrom (u .1 .1 .1 .1)) scanning-run.Learnt
   pub calls-refuse-after : Determined calls-refuse-after.Learnt

@@ -5,21 +5,9 @@ ghost use mathlib.Core.Path.{_≡_};
 ghost use Prim.Native.Nat.{_≤_};
 ghost use Rattle.image.specs.Image.{placesIn};
 ghost use Rattle.image.specs.Lent.{columnsBefore, columnsAfter};
-ghost use Rattle.trial.specs.Trial.{noTrial};
 ghost use Rattle.scanning.specs.Scan.{inputs};
 ghost use Rattle.scanning.specs.Loading.{triedOn, afterTrial};
 ghost use Rattle.scanning.specs.Run.{runOf, afterRun};
-
-// A program that is not accepted.
-fn refused() -> Trial
-    ensures { λ r. ⌜ r ≡ noTrial ⌝ }
-{
-    Trial {
-        good: false,
-        steps: 0,
-        alarms: 0,
-    }
-}
 
 // Tries a program whose n blocks stand from `start` on, on a copy of its places, and stores them if it is accepted.
 fn run_counted(
@@ -75,7 +63,7 @@ pub fn run(
     let every = [2u8; 200];
     let c = numbers::read_number(program, 0, numbers::BLOCK_COUNT, 0, &every);
     match c {
-        Number::Fault(_, _) => refused(),
+        Number::Fault(_, _) => trial::refused(),
         Number::Got(n, next) => run_counted(
             program,
             next,

@@ -32,7 +32,7 @@ pub struct Trial {
 }
 
 // The trial of a program that is not accepted.
-fn refused() -> Trial
+pub fn refused() -> Trial
     ensures { λ r. ⌜ r ≡ noTrial ⌝ }
 {
     Trial {

@@ -62,6 +62,7 @@ all =
       rules-apply = λ κ a x y u v h k. cc;
       running-turn = λ κ a x y u v h k. (h .0 ∙ sym (k .0), h .1 ∙ sym (k .1));
       turns-turns = λ κ a x y u v h k. (h .0 ∙ sym (k .0), h .1 ∙ sym (k .1));
+      trial-refused = λ κ a x y u v h k. cc;
       trial-try-program = λ κ a x y u v h k. (h .0 ∙ sym (k .0), h .1 ∙ sym (k .1));
       scanning-run = λ κ a x y u v h k. (h .0 ∙ sym (k .0), h .1 ∙ sym (k .1));
       calls-refuse-after = λ κ a x y u v h k. cc;
