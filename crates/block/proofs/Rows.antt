@@ -123,16 +123,21 @@ module _ (k : Marks) (s : List ℕ) where
   left-whole (ty ∷ ts) i b l before at e f h =
       let f1 = both-right (ltb i 5) _ f in
       let f2 = both-right (ltb ty numberTypes) _ f1 in
-      rw (content-number ty before at (ltb→lt ty numberTypes (both-left (ltb ty numberTypes) _ f1)), typed-same ty before i l at b (both-left (not (eqb ty offTime) || b) _ f2) h)
+      rw (
+        content-number ty before at (ltb→lt ty numberTypes (both-left (ltb ty numberTypes) _ f1)),
+        typed-same ty before i l at b (both-left (not (eqb ty offTime) || b) _ f2) h,
+      )
       (on-number (typedAt k ty (numberBefore i l) s at)
       (λ v next. left-whole ts (suc i) (ltb 1 ty) (set l i v) (settingOf (contentOf ty v)) next (length-set l i v ∙ e) (both-right (not (eqb ty offTime) || b) _ f2)
       (setting-same ty v i l (omega (arith, ltb→lt i 5 (both-left (ltb i 5) _ f))))))
     where
       on-number :
           (r : Read ℕ) →
-          ((v next : ℕ) → readAll ts (suc i) (record { fields = set l i v; nodes = 0; end = Next next }) ≡ rowFrom (suc i) (set l i v) 0 (fieldsAt k ts (settingOf (contentOf ty v)) s next)) →
+          ((v next : ℕ) → readAll ts (suc i) (record { fields = set l i v; nodes = 0; end = Next next }) ≡ rowFrom (suc i) (set l i v) 0
+          (fieldsAt k ts (settingOf (contentOf ty v)) s next)) →
           readAll ts (suc i) (withField i (record { fields = l; nodes = 0; end = Next at }) r)
-          ≡ rowFrom i l 0 (andThen (andThen r (λ v next. got (contentOf ty v) next)) (λ c next. andThen (fieldsAt k ts (settingOf c) s next) (λ cs end. got (c ∷ cs) end)))
+          ≡ rowFrom i l 0
+          (andThen (andThen r (λ v next. got (contentOf ty v) next)) (λ c next. andThen (fieldsAt k ts (settingOf c) s next) (λ cs end. got (c ∷ cs) end)))
       on-number (got v next) g =
           g v next ∙ sym (row-cons i l 0 (contentOf ty v) (fieldsAt k ts (settingOf (contentOf ty v)) s next) ∙ rw (content-code ty v, content-nodes ty v))
       on-number (fault n p) g = stays ts (suc i) n p

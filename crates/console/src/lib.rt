@@ -24,7 +24,8 @@ pub fn scan_in(
     analogs: [i16; 8],
 ) -> ScanAnswer
     ensures { λ r. ⌜ r ≡ scannedIn (now (program .entry)) (inputs elapsed bits analogs) (before counts times numbers ticks words pins outputs) ⌝ }
-    ensures after { λ r. ⌜ after counts times numbers ticks words pins outputs ≡ afterScan (now (program .entry)) (inputs elapsed bits analogs) (before counts times numbers ticks words pins outputs) ⌝ }
+    ensures after { λ r. ⌜ after counts times numbers ticks words pins outputs
+        ≡ afterScan (now (program .entry)) (inputs elapsed bits analogs) (before counts times numbers ticks words pins outputs) ⌝ }
 {
     image::columns_sized(ticks, words, pins, outputs);
     if !inspection::good(counts, times, numbers, ticks, words, pins, outputs) {

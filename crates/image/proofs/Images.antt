@@ -15,7 +15,8 @@ use Rattle.image.specs.declared.State.{State}
 use Rattle.image.specs.Image.{Log, Columns, Image, isOn, placesIn, timeIn, alarmsIn, journalIn, stateIn, outputOf, columnsOf, logOf, imageOf, atMost, isImage}
 use Rattle.image.specs.Lent.{SizedLog, SizedColumns}
 use Rattle.image.proofs.Counts.{counts-again}
-use Rattle.image.proofs.Columns.{pins-of-places, outputs-of-places, ticks-of-places, words-of-places, places-of-columns, numbers-of-entries, times-of-entries, entries-of-columns}
+use Rattle.image.proofs.Columns.{pins-of-places, outputs-of-places, ticks-of-places, words-of-places}
+use Rattle.image.proofs.Columns.{places-of-columns, numbers-of-entries, times-of-entries, entries-of-columns}
 
 -- outputs that are bits, and an alarm word that fits
 pub record Imaged (i : Image) : Type 0 where

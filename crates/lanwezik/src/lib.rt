@@ -84,7 +84,8 @@ pub extern "C" fn lanwezik_scan_in(
     inputs: Inputs,
 ) -> Scanned
     ensures { λ r. ⌜ r ≡ scanned (scannedIn (now (program .entry)) (inputsOf inputs) (before counts times numbers ticks words pins outputs)) ⌝ }
-    ensures after { λ r. ⌜ after counts times numbers ticks words pins outputs ≡ afterScan (now (program .entry)) (inputsOf inputs) (before counts times numbers ticks words pins outputs) ⌝ }
+    ensures after { λ r. ⌜ after counts times numbers ticks words pins outputs
+        ≡ afterScan (now (program .entry)) (inputsOf inputs) (before counts times numbers ticks words pins outputs) ⌝ }
 {
     let analogs = inputs.analogs;
     let a = console::scan_in(

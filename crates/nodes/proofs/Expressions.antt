@@ -43,7 +43,9 @@ sound-of d l at (got v next) w =
 
 pub sound : (k : Marks) (d l : ℕ) (s : List ℕ) (at : ℕ) {r : Node} → headAt k d l s at ≡ r → Sound d l r
 unfolding headAt
-sound k d l s at e = subst (Sound d l) e (sound-of d l at (typedAt k nodeNumber 0 s at) (below-of 240 (typedAt k nodeNumber 0 s at) (λ v n. typed-below k nodeNumber 0 s at)))
+sound k d l s at e =
+    subst (Sound d l) e
+    (sound-of d l at (typedAt k nodeNumber 0 s at) (below-of 240 (typedAt k nodeNumber 0 s at) (λ v n. typed-below k nodeNumber 0 s at)))
 
 -- one node, over the readers of its parts at one level less
 stop-deep : (f g : ℕ → ℕ → Read Expr) (left : ℕ) (n : Node) → Sound 0 left n → grow f left n ≡ grow g left n

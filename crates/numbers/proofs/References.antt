@@ -10,7 +10,8 @@ use borrow.Author.Tests.{eqb-true, eqb-false, ltb-true, ltb-false, leb-true, leb
 use Rattle.terms.specs.Choice.{every}
 use Rattle.terms.proofs.Choice.{pick-case, both}
 use Rattle.terms.proofs.Every.{every-join}
-use Rattle.numbers.specs.Blocks.{Bit, off, on, input, output, Word, analog, wordOf, constant, Content, bit, word, bitsIn, wordsIn, bitRefs, wordRefs, refsPass, nodesOf, bitCode, wordCode, codeOf}
+use Rattle.numbers.specs.Blocks.{Bit, off, on, input, output, Word, analog, wordOf, constant, Content, bit}
+use Rattle.numbers.specs.Blocks.{word, bitsIn, wordsIn, bitRefs, wordRefs, refsPass, nodesOf, bitCode, wordCode, codeOf}
 use Rattle.numbers.specs.Types.{pin, wordPin, nodeNumber, saidBy, limits, allowed, bitRef, wordRef, contentOf, settingOf}
 use Rattle.numbers.specs.Reading.{Marks, bitMarked, wordMarked, marked}
 

@@ -30,7 +30,8 @@ every-bit v h =
 
 every-word : (v : ℕ) → refsPass (bitMarked everyBlock) (wordMarked everyBlock) (word (wordRef v) ∷ []) ≡ true
 every-word v =
-    word-cases (λ w. refsPass (bitMarked everyBlock) (wordMarked everyBlock) (word w ∷ []) ≡ true) v (λ _. refl) (λ g h. rw (getD-replicate {A = ℕ} 200 (v - 8) 2 0 (omega arith))) (λ _. refl)
+    word-cases (λ w. refsPass (bitMarked everyBlock) (wordMarked everyBlock) (word w ∷ []) ≡ true) v (λ _. refl)
+    (λ g h. rw (getD-replicate {A = ℕ} 200 (v - 8) 2 0 (omega arith))) (λ _. refl)
 
 every-marked : (ty before v : ℕ) → allowed ty before v ≡ true → marked everyBlock ty v ≡ true
 unfolding marked saidBy contentOf

@@ -23,7 +23,8 @@ use Rattle.scanning.specs.Scan.{Inputs}
 use Rattle.terms.specs.Refusals.{badState}
 use Rattle.calls.specs.Calls.{stampOf, answered, scanOf, handedBy, takeOf}
 use Rattle.promises.specs.Closure.{Closure}
-use Rattle.promises.specs.Demand1.{Accepting, stops, strays, overflows, passes, Scanning, refuses-program, refuses-state, refuses-time, refuses-missed, answers, Taking, refuses, hands}
+use Rattle.promises.specs.Demand1.{Accepting, stops, strays, overflows, passes, Scanning, refuses-program}
+use Rattle.promises.specs.Demand1.{refuses-state, refuses-time, refuses-missed, answers, Taking, refuses, hands}
 use Rattle.promises.specs.History.{Call, scan, take, refusalOf, stateOf, stateAfter}
 use Rattle.promises.proofs.Acceptance.{accept-row}
 use Rattle.promises.proofs.Refusals.{scan-row, take-row}

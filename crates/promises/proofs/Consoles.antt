@@ -39,7 +39,8 @@ word-fits : (bytes : List ℕ) (x : Inputs) (s : State) → scanOf bytes x s .al
 unfolding scanOf answered alarmWord
 word-fits bytes x s =
     pick-case Fits (not (eqb (accepted bytes .refusal) 0)) (λ _. omega arith)
-    (λ _. pick-case Fits (not (goodState s)) (λ _. omega arith) (λ _. pick-case Fits (late (x .elapsed) (s .time) (s .journal .missed)) (λ _. omega arith) (λ _. go (programAt everyBlock bytes) refl)))
+    (λ _. pick-case Fits (not (goodState s)) (λ _. omega arith)
+    (λ _. pick-case Fits (late (x .elapsed) (s .time) (s .journal .missed)) (λ _. omega arith) (λ _. go (programAt everyBlock bytes) refl)))
   where
     go : (r : Read Program) → programAt everyBlock bytes ≡ r → answerOf x s r .alarms < 2 ^ 32
     go (got p end) e =

@@ -61,7 +61,9 @@ stored-good t j k h e =
     (record {
       few = omega (arith, ltb-true (j .held) 32 lt);
       numbers = every-set numbered (j .entries) (j .held) (s .numbers) (le-leb k 31 h);
-      rest = rw (drop-set-lt (j .held + 1) (j .entries) (j .held) (entryOf t k) (omega arith), ← drop-drop 1 (j .held) (j .entries)) (every-drop empty 1 (drop (j .held) (j .entries)) (s .rest));
+      rest =
+          rw (drop-set-lt (j .held + 1) (j .entries) (j .held) (entryOf t k) (omega arith), ← drop-drop 1 (j .held) (j .entries))
+          (every-drop empty 1 (drop (j .held) (j .entries)) (s .rest));
     }))
     (λ _. good-of _ (record { few = s .few; numbers = s .numbers; rest = s .rest }))
 

@@ -19,7 +19,8 @@ use Rattle.calls.specs.declared.Handed.{Handed}
 use Rattle.image.specs.State.{freshState}
 use Rattle.scanning.specs.Scan.{Inputs}
 use Rattle.calls.specs.Calls.{answered, scanOf, takeOf}
-use Rattle.promises.specs.History.{Call, scan, take, refusalOf, stateOf, stateAfter, entriesOf, handedOut, answeredOf, Past, freshPast, pastScan, pastTake, pastCall, pastAfter, programOf}
+use Rattle.promises.specs.History.{Call, scan, take, refusalOf, stateOf, stateAfter, entriesOf, handedOut}
+use Rattle.promises.specs.History.{answeredOf, Past, freshPast, pastScan, pastTake, pastCall, pastAfter, programOf}
 use Rattle.promises.specs.Demand1.{RefusedScan, Scanning, refuses-program, refuses-state, refuses-time, refuses-missed, answers, Taking, refuses, hands}
 use Rattle.promises.specs.Demand2.{ByTheRules, EveryRun}
 use Rattle.promises.specs.Demand3.{Demand3, EveryHistory}
@@ -86,7 +87,10 @@ module _ (closed : Closure) (bytes : List ℕ) where
   calls-on [] {out = out} i = rw (append-nil out) i
   calls-on (c ∷ cs) {s} {m} {out} i =
       let r = calls-on cs (call-on i c) in
-      rw (left-out (programOf bytes) m c (eqb (refusalOf bytes s c) 0) (answeredOf bytes (stateOf bytes s c) cs), ← append-assoc out (entriesOf bytes s c) (handedOut bytes (stateOf bytes s c) cs)) r
+      rw (
+        left-out (programOf bytes) m c (eqb (refusalOf bytes s c) 0) (answeredOf bytes (stateOf bytes s c) cs),
+        ← append-assoc out (entriesOf bytes s c) (handedOut bytes (stateOf bytes s c) cs),
+      ) r
 
   begin : InStep freshState freshPast []
   unfolding freshState freshPast freshJournal
@@ -102,7 +106,8 @@ module _ (closed : Closure) (bytes : List ℕ) where
 
   -- ---- the demands
 
-  pub every-step : (cs : List Call) → InStep (stateAfter bytes freshState cs) (pastAfter (programOf bytes) freshPast (answeredOf bytes freshState cs)) (handedOut bytes freshState cs)
+  pub every-step : (cs : List Call)
+      → InStep (stateAfter bytes freshState cs) (pastAfter (programOf bytes) freshPast (answeredOf bytes freshState cs)) (handedOut bytes freshState cs)
   every-step cs = calls-on cs begin
 
   next-scan : {s : State} {m : Past} {out : List Entry} → InStep s m out → (x : Inputs) → Scanning bytes x s (scanOf bytes x s) → scanOf bytes x s .refusal ≡ 0

@@ -159,7 +159,10 @@ hands {j} {l} {out} k = go (eqb (j .held) 0) refl
                 missed = k .missed;
               });
           found = sym one;
-          oldest = sym (ap (λ (x : List Entry). getD x (l .taken) zeroEntry) all ∙ ap (λ (n : ℕ). getD (out ++ (head ∷ rest)) n zeroEntry) (sym (k .taken)) ∙ getD-append-seam out head rest zeroEntry);
+          oldest =
+              sym
+              (ap (λ (x : List Entry). getD x (l .taken) zeroEntry) all
+              ∙ ap (λ (n : ℕ). getD (out ++ (head ∷ rest)) n zeroEntry) (sym (k .taken)) ∙ getD-append-seam out head rest zeroEntry);
         })
       where
         pos : {n : ℕ} → (n ≡ 0 → ⊥) → 0 < n

@@ -73,7 +73,12 @@ module _ (k : Marks) (s : List ℕ) (l : List ℕ) where
           let a : allowed ty before v ≡ true = typed-allowed k ty before s at t in
           let m = again (settingOf (contentOf ty v)) n ds end q (g .1) in
           subst (Said (ty ∷ ts) i before l) c
-          (record { allow = rw (w, a) (m .allow); same = rw w (ap (λ (x : List Content). contentOf ty v ∷ x) (m .same)); one = λ f. step-one f ty v ds; bare = rw (content-nodes ty v, m .bare) refl })
+          (record {
+            allow = rw (w, a) (m .allow);
+            same = rw w (ap (λ (x : List Content). contentOf ty v ∷ x) (m .same));
+            one = λ f. step-one f ty v ds;
+            bare = rw (content-nodes ty v, m .bare) refl;
+          })
 
       field : ((b a : ℕ) (ds : List Content) (n : ℕ) → fieldsAt k ts b s a ≡ got ds n → Held (suc i) l ds → Said ts (suc i) b l ds) →
           (r : Read ℕ) → typedAt k ty before s at ≡ r
@@ -90,7 +95,8 @@ long k (ty ∷ ts) before s at =
     gives-after (λ cs. length cs ≡ suc (length ts)) (contentAt k ty before s at) _
     (λ c m. long-cons (length ts) c (fieldsAt k ts (settingOf c) s m) (long k ts (settingOf c) s m))
 
-fields-long : (k : Marks) (ts : List ℕ) (before : ℕ) (s : List ℕ) (at : ℕ) {cs : List Content} {next : ℕ} → fieldsAt k ts before s at ≡ got cs next → length cs ≡ length ts
+fields-long : (k : Marks) (ts : List ℕ) (before : ℕ) (s : List ℕ) (at : ℕ) {cs : List Content} {next : ℕ} → fieldsAt k ts before s at ≡ got cs next
+    → length cs ≡ length ts
 fields-long k ts before s at e = subst (Long (length ts)) e (long k ts before s at)
 
 -- five places hold the numbers that are stored in them

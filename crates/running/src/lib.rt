@@ -81,7 +81,8 @@ fn none(p: Place, no: u8, at: usize) -> Turned
 
 // The turn of a BL whose expression stands at a place.
 fn turn_bl(s: &[u8], at: usize, p: Place, bits: &[bool; 234], marks: &[u8; 200]) -> Turned
-    ensures { λ r. ⌜ ((g : Word → ℤ) (e : ℕ) → r ≡ turnOf (bitIn (now (bits .entry))) g e p (blockRead 0 (fieldsAt (now (marks .entry)) (typesOf 0) 0 (now (s .entry)) at))) ⌝ }
+    ensures { λ r. ⌜ ((g : Word → ℤ) (e : ℕ) → r
+        ≡ turnOf (bitIn (now (bits .entry))) g e p (blockRead 0 (fieldsAt (now (marks .entry)) (typesOf 0) 0 (now (s .entry)) at))) ⌝ }
 {
     let v = expression::eval(s, at, nodes::MOST_DEEP, nodes::MOST_NODES, bits, marks);
     match v {
@@ -114,8 +115,10 @@ fn turn_row(
     asked: &mut [u8; 200],
 ) -> Turned
     requires { ⌜ (kind < kindCount) × (0 < kind) ⌝ }
-    ensures { λ r. ⌜ r ≡ turnOf (bitIn (now (bits .entry))) (wordIn (now (words .entry))) e p (blockRead kind (fieldsAt (now (marks .entry)) (typesOf kind) 0 (now (s .entry)) at)) ⌝ }
-    ensures asks { λ _. ⌜ now (asked .exit) ≡ askedAfter (now (asked .entry)) (blockRead kind (fieldsAt (now (marks .entry)) (typesOf kind) 0 (now (s .entry)) at)) ⌝ }
+    ensures { λ r. ⌜ r
+        ≡ turnOf (bitIn (now (bits .entry))) (wordIn (now (words .entry))) e p (blockRead kind (fieldsAt (now (marks .entry)) (typesOf kind) 0 (now (s .entry)) at)) ⌝ }
+    ensures asks { λ _. ⌜ now (asked .exit)
+        ≡ askedAfter (now (asked .entry)) (blockRead kind (fieldsAt (now (marks .entry)) (typesOf kind) 0 (now (s .entry)) at)) ⌝ }
 {
     let row = block::read_row(s, at, kind, marks);
     let fields = row.fields;

@@ -66,7 +66,8 @@ module _ (x : Inputs) (eight : length (x .words) ≡ 8) where
 
     -- one turn
     turn : (qs : List Place) (i : ℕ) → i < length blocks
-        → Turn bitFits (bitIn (loaded x qs .bits)) (readBit x qs) (bit-values x qs) wordFits (wordIn (loaded x qs .words)) (readWord x qs) (word-values x qs eight) (blockOf blocks i)
+        → Turn bitFits (bitIn (loaded x qs .bits)) (readBit x qs) (bit-values x qs) wordFits (wordIn (loaded x qs .words)) (readWord x qs)
+        (word-values x qs eight) (blockOf blocks i)
     turn qs i h = same-turn bitFits _ _ (bit-values x qs) wordFits _ _ (word-values x qs eight) (blockOf blocks i) (fits i h)
 
     pub turns-loaded : (i : ℕ) → i ≤ length blocks → turnsTo (x .elapsed) blocks i (loaded x ps) ≡ loaded x (scanTo x blocks i ps)

@@ -62,5 +62,7 @@ module _ (s : List ℕ) (x : Inputs) (c : Columns) where
   not-run g = go (eqb (accepted s .refusal) 0) refl
     where
       go : (b : Bool) → eqb (accepted s .refusal) 0 ≡ b → (b ≡ false) × (afterRun s x c ≡ c)
-      go true e = let z : true ≡ false = rw (by-program e (accepted-good s (eqb-true (accepted s .refusal) 0 e)) .answer) at g in let u : _≡_ {A = ℕ} 0 1 = cc in absurd (omega arith)
+      go true e =
+          let z : true ≡ false = rw (by-program e (accepted-good s (eqb-true (accepted s .refusal) 0 e)) .answer) at g in
+          let u : _≡_ {A = ℕ} 0 1 = cc in absurd (omega arith)
       go false e = (refl, not-good e .1)

@@ -24,7 +24,8 @@ fn run_counted(
 ) -> Trial
     requires { ⌜ n ≤ 200 ⌝ }
     ensures { λ r. ⌜ r ≡ triedOn n (now (program .entry)) start (inputs elapsed bits analogs) (columnsBefore ticks words pins outputs) ⌝ }
-    ensures after { λ r. ⌜ columnsAfter ticks words pins outputs ≡ afterTrial n (now (program .entry)) start (inputs elapsed bits analogs) (columnsBefore ticks words pins outputs) ⌝ }
+    ensures after { λ r. ⌜ columnsAfter ticks words pins outputs
+        ≡ afterTrial n (now (program .entry)) start (inputs elapsed bits analogs) (columnsBefore ticks words pins outputs) ⌝ }
 {
     let mut v = [false; 234];
     let mut w = [0i16; 208];
@@ -57,7 +58,8 @@ pub fn run(
     outputs: &mut [u8; 200],
 ) -> Trial
     ensures { λ r. ⌜ r ≡ runOf (now (program .entry)) (inputs elapsed bits analogs) (placesIn (columnsBefore ticks words pins outputs)) ⌝ }
-    ensures after { λ r. ⌜ columnsAfter ticks words pins outputs ≡ afterRun (now (program .entry)) (inputs elapsed bits analogs) (columnsBefore ticks words pins outputs) ⌝ }
+    ensures after { λ r. ⌜ columnsAfter ticks words pins outputs
+        ≡ afterRun (now (program .entry)) (inputs elapsed bits analogs) (columnsBefore ticks words pins outputs) ⌝ }
 {
     image::columns_sized(ticks, words, pins, outputs);
     let every = [2u8; 200];

@@ -55,7 +55,8 @@ pub fn try_program(
 ) -> Trial
     requires { ⌜ n ≤ 200 ⌝ }
     ensures { λ r. ⌜ r ≡ trialOf elapsed (arraysBefore bits words ticks pins) (afterCount (firstBlocks n) n (now (program .entry)) start) ⌝ }
-    ensures after { λ r. ⌜ arraysAfter bits words ticks pins ≡ turnedWhile elapsed (firstBlocks n) n (now (program .entry)) start (arraysBefore bits words ticks pins) ⌝ }
+    ensures after { λ r. ⌜ arraysAfter bits words ticks pins
+        ≡ turnedWhile elapsed (firstBlocks n) n (now (program .entry)) start (arraysBefore bits words ticks pins) ⌝ }
 {
     let mut marks = [0u8; 200];
     mark_first(n, &mut marks);

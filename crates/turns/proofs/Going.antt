@@ -83,7 +83,8 @@ module _ (e : ℕ) (k : Marks) (n : ℕ) (s : List ℕ) (start : ℕ) (a : Array
       pub lost : {y z : ℕ} → t .end ≡ Fault y z → blockAt k s at ≡ fault y z
       lost {y} {z} h = go (blockAt k s at) refl (sym (ap (λ (y : Turned). y .end) turn) ∙ h)
         where
-          go : (r : Read Block) → blockAt k s at ≡ r → turnOf (bitIn (here .bits)) (wordIn (here .words)) e (placeAt here i) r .end ≡ Fault y z → blockAt k s at ≡ fault y z
+          go : (r : Read Block) → blockAt k s at ≡ r → turnOf (bitIn (here .bits)) (wordIn (here .words)) e (placeAt here i) r .end ≡ Fault y z
+              → blockAt k s at ≡ fault y z
           go (got b m) q w = let z : _≡_ {A = ℕ} 0 1 = cc in absurd (omega arith)
           go (fault x v) q w = let c : x ≡ y = cc in let d : v ≡ z = cc in q ∙ rw (c, d)
 

@@ -104,7 +104,8 @@ formed (suc k) least s at bytes l =
     pick-case F (ltb at (length s))
     (λ inside. pick-case F (ltb b 128)
     (λ lt. pick-case F (ltb b least) (λ _. tt) (λ ge. formed-last k least s at (ltb-true at (length s) inside) (ltb-true b 128 lt) (ltb-false b least ge)))
-    (λ ge. formed-more k least s at (groupsAt k notZero s (at + 1)) (ltb-true at (length s) inside) (ltb-false b 128 ge) (bytes at) l (formed k notZero s (at + 1) bytes (omega arith))))
+    (λ ge. formed-more k least s at (groupsAt k notZero s (at + 1)) (ltb-true at (length s) inside) (ltb-false b 128 ge) (bytes at) l
+    (formed k notZero s (at + 1) bytes (omega arith))))
     (λ _. tt)
 
 pub form :

@@ -15,10 +15,13 @@ returns c = rw (not-true (c .before .args .i) (c .if1 .taken))
 returns-2 : tie.Need-returns-2
 unfolding og
 returns-2 c =
-    let f = c .before .before .before .before .fits in
-    let s : SFits w32 (c .before .before .scale .result) = record { sfits = c .before .before .scale .ok } in
-    let z = rw (toZ-ofZ (f .a), toZ-ofZ (f .x), toZ-ofZ (f .b), toZ-ofZ (f .c)) at (c .before .before .scale .ensures) in
-    rw (not-false (c .before .before .before .before .args .i) (c .before .before .before .if1 .left), (rw (toZ-ofZ s, z) at (c .hold .ensures)), (rw (toZ-ofZ s, z) at (c .before .holding-changes .ensures)))
+    let after-scale = c .before .before in
+    let after-if1 = after-scale .before in
+    let start = after-if1 .before in
+    let f = start .fits in
+    let s : SFits w32 (after-scale .scale .result) = record { sfits = after-scale .scale .ok } in
+    let z = rw (toZ-ofZ (f .a), toZ-ofZ (f .x), toZ-ofZ (f .b), toZ-ofZ (f .c)) at (after-scale .scale .ensures) in
+    rw (not-false (start .args .i) (after-if1 .if1 .left), (rw (toZ-ofZ s, z) at (c .hold .ensures)), (rw (toZ-ofZ s, z) at (c .before .holding-changes .ensures)))
 
 pub og-spec : {M : Type 1} → statement M
 og-spec =

@@ -18,14 +18,26 @@ returns-2 c =
 returns-3 : tie.Need-returns-3
 unfolding st
 returns-3 c =
-    let f = c .before .before .before .fits in
-    rw (not-false (c .before .before .before .args .i) (c .before .before .if1 .left), (rw (toZ-ofZ (f .h), toZ-ofZ (f .x)) at (c .before .if2 .left)), (rw (toZ-ofZ (f .x), toZ-ofZ (f .l)) at (c .if3 .taken)))
+    let after-if1 = c .before .before in
+    let start = after-if1 .before in
+    let f = start .fits in
+    rw (
+      not-false (start .args .i) (after-if1 .if1 .left),
+      (rw (toZ-ofZ (f .h), toZ-ofZ (f .x)) at (c .before .if2 .left)),
+      (rw (toZ-ofZ (f .x), toZ-ofZ (f .l)) at (c .if3 .taken)),
+    )
 
 returns-4 : tie.Need-returns-4
 unfolding st
 returns-4 c =
-    let f = c .before .before .before .fits in
-    rw (not-false (c .before .before .before .args .i) (c .before .before .if1 .left), (rw (toZ-ofZ (f .h), toZ-ofZ (f .x)) at (c .before .if2 .left)), (rw (toZ-ofZ (f .x), toZ-ofZ (f .l)) at (c .if3 .left)))
+    let after-if1 = c .before .before in
+    let start = after-if1 .before in
+    let f = start .fits in
+    rw (
+      not-false (start .args .i) (after-if1 .if1 .left),
+      (rw (toZ-ofZ (f .h), toZ-ofZ (f .x)) at (c .before .if2 .left)),
+      (rw (toZ-ofZ (f .x), toZ-ofZ (f .l)) at (c .if3 .left)),
+    )
 
 pub st-spec : {M : Type 1} → statement M
 st-spec = tie.close (tie.spec returns returns-2 returns-3 returns-4)

@@ -55,7 +55,8 @@ returns-4 c =
     let r = ran _ _ _ (ap (λ (t : Trial). t .good) (sym (run .run .ensures .0)) ∙ not-false _ (c .before .before .before .before .before .if3 .left)) in
     let a = run .run .ensures .0 ∙ r .answer in (
       rw (c .close .ensures .0, a) (sym (by-answer _ _ _ good on-time r)),
-      rw (c .close .ensures .1, run .run .ensures .1, a) (image-after _ _ _ good on-time r (checked .before .before .before .before .before .before .before .before .before .columns-sized .ensures)),
+      rw (c .close .ensures .1, run .run .ensures .1, a)
+          (image-after _ _ _ good on-time r (checked .before .before .before .before .before .before .before .before .before .columns-sized .ensures)),
     )
 
 pub scan-in-spec : {M : Type 1} → statement M

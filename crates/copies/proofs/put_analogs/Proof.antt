@@ -25,10 +25,17 @@ loop-holds c = (search needs, (refl, (search needs, search needs)))
 
 loop-again : tie.Need-loop-again Inv-loop μ-loop
 loop-again c =
-    let l = c .before .before .loop in
-    let x = c .before .before .before .before .before .args .t1 in
-    let f : SFits w16 (getD x (l .i) (pos 0)) = search needs in
-    (omega arith, (spliced x _ (l .i) (pos 0) (omega arith) (omega (arith, l .inv .1 .1 .1)) (toZ-ofZ f) (l .inv .1 .0), (simp length-set (l .inv .1 .1 .0), l .inv .1 .1 .1)))
+    let after-loop = c .before .before in
+    let start = after-loop .before .before .before in
+    let l = after-loop .loop in
+    let x = start .args .t1 in
+    let f : SFits w16 (getD x (l .i) (pos 0)) = search needs in (
+      omega arith,
+      (
+        spliced x _ (l .i) (pos 0) (omega arith) (omega (arith, l .inv .1 .1 .1)) (toZ-ofZ f) (l .inv .1 .0),
+        (simp length-set (l .inv .1 .1 .0), l .inv .1 .1 .1),
+      ),
+    )
 
 returns : tie.Need-returns Inv-loop μ-loop
 returns c =

@@ -19,15 +19,28 @@ abbrev μ-loop : tie.MeasureT-loop
 μ-loop bits to₀ i₀ to i = 32 - i
 
 loop-holds : tie.Need-loop-holds Inv-loop μ-loop
-loop-holds c = (search needs, (off-and-on (c .before .before .args .bits) (c .before .before .args .to .now) (omega arith), (simp length-set (omega arith), simp length-set (omega arith))))
+loop-holds c = (
+  search needs,
+  (
+    off-and-on (c .before .before .args .bits) (c .before .before .args .to .now) (omega arith),
+    (simp length-set (omega arith), simp length-set (omega arith)),
+  ),
+)
 
 loop-again : tie.Need-loop-again Inv-loop μ-loop
 loop-again c =
     let l = c .before .loop in
     let b = c .before .before .before .before .args .bits in
     let n = inputs-length b in
-    let e : l .i + 1 + 2 ≡ l .i + 2 + 1 = omega arith in
-    (omega arith, (rw e (spliced (inputBits b) _ (l .i + 2) false (omega arith) (omega (arith, l .inv .1 .1 .1)) (sym (input-at b (l .i) (omega arith))) (l .inv .1 .0)), (simp length-set (l .inv .1 .1 .0), l .inv .1 .1 .1)))
+    let e : l .i + 1 + 2 ≡ l .i + 2 + 1 = omega arith in (
+      omega arith,
+      (
+        rw e
+            (spliced (inputBits b) _ (l .i + 2) false (omega arith) (omega (arith, l .inv .1 .1 .1)) (sym (input-at b (l .i) (omega arith)))
+            (l .inv .1 .0)),
+        (simp length-set (l .inv .1 .1 .0), l .inv .1 .1 .1),
+      ),
+    )
 
 returns : tie.Need-returns Inv-loop μ-loop
 returns c =

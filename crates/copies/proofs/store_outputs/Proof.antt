@@ -19,11 +19,21 @@ abbrev μ-loop : tie.MeasureT-loop
 
 loop-again : tie.Need-loop-again Inv-loop μ-loop
 loop-again c =
-    let l = c .before .before .loop in
-    let a = c .before .before .before .before .before .before .args in
+    let after-loop = c .before .before in
+    let start = after-loop .before .before .before .before in
+    let l = after-loop .loop in
+    let a = start .args in
     let b = a .bits .now in
-    let m : length (map digit (drop 34 b)) ≡ 200 = simp (length-map, length-drop) (omega (arith, l .inv .1 .1 .1)) in
-    (omega arith, (l .inv .1 .0, (spliced (map digit (drop 34 b)) (a .to .now) (l .i) 0 (omega arith) (omega arith) (byte-at 34 b (l .i)) (l .inv .1 .1 .0), l .inv .1 .1 .1)))
+    let m : length (map digit (drop 34 b)) ≡ 200 = simp (length-map, length-drop) (omega (arith, l .inv .1 .1 .1)) in (
+      omega arith,
+      (
+        l .inv .1 .0,
+        (
+          spliced (map digit (drop 34 b)) (a .to .now) (l .i) 0 (omega arith) (omega arith) (byte-at 34 b (l .i)) (l .inv .1 .1 .0),
+          l .inv .1 .1 .1,
+        ),
+      ),
+    )
 
 returns : tie.Need-returns Inv-loop μ-loop
 returns c =

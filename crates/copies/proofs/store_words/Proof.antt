@@ -21,12 +21,23 @@ abbrev μ-loop : tie.MeasureT-loop
 
 loop-again : tie.Need-loop-again Inv-loop μ-loop
 loop-again c =
-    let l = c .before .before .loop in
-    let a = c .before .before .before .before .before .before .args in
+    let after-loop = c .before .before in
+    let start = after-loop .before .before .before .before in
+    let l = after-loop .loop in
+    let a = start .args in
     let w = a .words .now in
     let f : SFits w16 (getD w (l .i + 8) (pos 0)) = search needs in
-    let m : length (drop 8 w) ≡ 200 = simp length-drop (omega (arith, l .inv .1 .1 .1)) in
-    (omega arith, (l .inv .1 .0, (spliced (drop 8 w) (a .to .now) (l .i) (pos 0) (omega arith) (omega arith) (toZ-ofZ f ∙ sym (beyond (pos 0) 8 w (l .i))) (l .inv .1 .1 .0), l .inv .1 .1 .1)))
+    let m : length (drop 8 w) ≡ 200 = simp length-drop (omega (arith, l .inv .1 .1 .1)) in (
+      omega arith,
+      (
+        l .inv .1 .0,
+        (
+          spliced (drop 8 w) (a .to .now) (l .i) (pos 0) (omega arith) (omega arith) (toZ-ofZ f ∙ sym (beyond (pos 0) 8 w (l .i)))
+              (l .inv .1 .1 .0),
+          l .inv .1 .1 .1,
+        ),
+      ),
+    )
 
 returns : tie.Need-returns Inv-loop μ-loop
 returns c =

@@ -84,15 +84,54 @@ pub +eval+part+second-spec : {M : Type 1} → statement M
     (λ c. omega (arith, sound _ _ _ _ _ (sym (c .before .before .before .head .ensures) ∙ c .before .h4 .given .1)))
     (λ c κs. (omega (arith, sound _ _ _ _ _ (sym (c .before .before .before .head .ensures) ∙ c .before .h4 .given .1)), tt))
     (λ c. search needs)
-    (λ c. omega (arith, sound _ _ _ _ _ (sym (c .before .before .before .before .before .before .before .head .ensures) ∙ c .before .before .before .before .before .h4 .given .1)))
-    (λ c κs. (omega (arith, sound _ _ _ _ _ (sym (c .before .before .before .before .before .before .before .head .ensures) ∙ c .before .before .before .before .before .h4 .given .1)), omega (arith, steps-few _ _ _ _ _ _ (sym (c .before .before .before .part .ensures) ∙ c .before .a3 .given .1))))
+    (λ c.
+    let after-h4 = c .before .before .before .before .before in
+    let after-head = after-h4 .before .before in
+    omega (arith, sound _ _ _ _ _ (sym (after-head .head .ensures) ∙ after-h4 .h4 .given .1)))
+    (λ c κs.
+    let after-part = c .before .before .before in
+    let after-h4 = after-part .before .before in
+    let after-head = after-h4 .before .before in (
+      omega (arith, sound _ _ _ _ _ (sym (after-head .head .ensures) ∙ after-h4 .h4 .given .1)),
+      omega (arith, steps-few _ _ _ _ _ _ (sym (after-part .part .ensures) ∙ c .before .a3 .given .1)),
+    ))
     (λ c. search needs)
     (λ c. rw (step, (sym (c .before .before .before .head .ensures) ∙ c .before .h .given .1)))
     (λ c. rw (step, (sym (c .before .before .before .before .head .ensures) ∙ c .before .before .h2 .given .1), bit-code))
-    (λ c. let a = c .before .before .before .before .before .before .before .before .before .args in rw (step, (sym (c .before .before .before .before .before .before .before .head .ensures) ∙ c .before .before .before .before .before .h3 .given .1)) (value-not (bitIn (a .bits .now)) (a .left) (exprAt (a .marks .now) (a .depth - 1) (a .left - 1) (a .s .now) (c .before .before .before .before .before .h3 .given .0 .0)) (sym (c .before .before .before .eval .ensures) ∙ c .before .a .given .1)))
-    (λ c. rw (step, (sym (c .before .before .before .before .before .before .before .head .ensures) ∙ c .before .before .before .before .before .h3 .given .1), value-broken _ _ _ _ _ (sym (c .before .before .before .eval .ensures) ∙ c .before .a2 .given .1)))
-    (λ c. let a = c .before .before .before .before .before .before .before .before .before .before .args in rw (step, (sym (c .before .before .before .before .before .before .before .before .head .ensures) ∙ c .before .before .before .before .before .before .h4 .given .1), value-two (bitIn (a .bits .now)) (a .left) (c .before .before .before .before .before .before .h4 .given .0 .0) _ (λ l n. exprAt (a .marks .now) (a .depth - 1) l (a .s .now) n) (sym (c .before .before .before .before .part .ensures) ∙ c .before .before .a3 .given .1)) (c .second .ensures))
-    (λ c. rw (step, (sym (c .before .before .before .before .before .before .before .head .ensures) ∙ c .before .before .before .before .before .h4 .given .1), value-broken _ _ _ _ _ (sym (c .before .before .before .part .ensures) ∙ c .before .a4 .given .1))))
+    (λ c.
+    let after-eval = c .before .before .before in
+    let after-h3 = after-eval .before .before in
+    let after-head = after-h3 .before .before in
+    let start = after-head .before .before in
+    let a = start .args in
+    rw (step, (sym (after-head .head .ensures) ∙ after-h3 .h3 .given .1))
+    (value-not (bitIn (a .bits .now)) (a .left) (exprAt (a .marks .now) (a .depth - 1) (a .left - 1) (a .s .now) (after-h3 .h3 .given .0 .0))
+    (sym (after-eval .eval .ensures) ∙ c .before .a .given .1)))
+    (λ c.
+    let after-eval = c .before .before .before in
+    let after-h3 = after-eval .before .before in
+    let after-head = after-h3 .before .before in
+    rw
+    (step, (sym (after-head .head .ensures) ∙ after-h3 .h3 .given .1), value-broken _ _ _ _ _ (sym (after-eval .eval .ensures) ∙ c .before .a2 .given .1)))
+    (λ c.
+    let after-a3 = c .before .before in
+    let after-part = after-a3 .before .before in
+    let after-h4 = after-part .before .before in
+    let after-head = after-h4 .before .before in
+    let start = after-head .before .before in
+    let a = start .args in
+    rw (
+      step,
+      (sym (after-head .head .ensures) ∙ after-h4 .h4 .given .1),
+      value-two (bitIn (a .bits .now)) (a .left) (after-h4 .h4 .given .0 .0) _ (λ l n. exprAt (a .marks .now) (a .depth - 1) l (a .s .now) n)
+          (sym (after-part .part .ensures) ∙ after-a3 .a3 .given .1),
+    ) (c .second .ensures))
+    (λ c.
+    let after-part = c .before .before .before in
+    let after-h4 = after-part .before .before in
+    let after-head = after-h4 .before .before in
+    rw
+    (step, (sym (after-head .head .ensures) ∙ after-h4 .h4 .given .1), value-broken _ _ _ _ _ (sym (after-part .part .ensures) ∙ c .before .a4 .given .1))))
     (λ t. part-lts.spec
     (head-reads.Asked, head-reads.Learnt, eval-below t, eval.Post)
     (part-at t)
@@ -123,13 +162,33 @@ pub +eval+part+second-spec : {M : Type 1} → statement M
     (λ c κs. search needs)
     (λ c. omega (arith, c .before .before .before .before .before .before .before .before .pre .1))
     (λ c. search needs)
-    (λ c. rw (c .gate .ensures) (join-skipped _ _ _ _ _ _ _ _ _ (sym (c .before .before .before .before .before .before .skips .ensures) ∙ c .before .before .before .before .before .if1 .taken) (sym (c .before .before .before .before .skip .ensures) ∙ c .before .before .b .given .1)))
+    (λ c.
+    let after-b = c .before .before in
+    let after-skip = after-b .before .before in
+    let after-if1 = after-skip .before in
+    let after-skips = after-if1 .before in
+    rw (c .gate .ensures)
+    (join-skipped _ _ _ _ _ _ _ _ _ (sym (after-skips .skips .ensures) ∙ after-if1 .if1 .taken) (sym (after-skip .skip .ensures) ∙ after-b .b .given .1)))
     (λ c. join-lost _ _ _ _ _ _ _ _ _ (sym (c .before .before .before .skip .ensures) ∙ c .before .b2 .given .1))
     (λ c κs. (omega arith, tt))
     (λ c. search needs)
     (λ c κs. search needs)
-    (λ c. omega (arith, c .before .before .before .before .before .before .before .before .pre .1, steps-few _ _ _ _ _ _ (sym (c .before .before .before .before .part .ensures) ∙ c .before .before .b3 .given .1)))
-    (λ c. omega (arith, c .before .before .before .before .before .before .before .before .pre .1, steps-few _ _ _ _ _ _ (sym (c .before .before .before .before .part .ensures) ∙ c .before .before .b3 .given .1)))
+    (λ c.
+    let after-b3 = c .before .before in
+    let after-part = after-b3 .before .before in
+    let start = after-part .before .before .before .before in
+    omega (arith, start .pre .1, steps-few _ _ _ _ _ _ (sym (after-part .part .ensures) ∙ after-b3 .b3 .given .1)))
+    (λ c.
+    let after-b3 = c .before .before in
+    let after-part = after-b3 .before .before in
+    let start = after-part .before .before .before .before in
+    omega (arith, start .pre .1, steps-few _ _ _ _ _ _ (sym (after-part .part .ensures) ∙ after-b3 .b3 .given .1)))
     (λ c. search needs)
-    (λ c. rw (c .gate2 .ensures) (join-both _ _ _ _ _ _ _ _ _ (sym (c .before .before .before .before .before .before .skips .ensures) ∙ c .before .before .before .before .before .if1 .left) (sym (c .before .before .before .before .part .ensures) ∙ c .before .before .b3 .given .1)))
+    (λ c.
+    let after-b3 = c .before .before in
+    let after-part = after-b3 .before .before in
+    let after-if1 = after-part .before in
+    let after-skips = after-if1 .before in
+    rw (c .gate2 .ensures)
+    (join-both _ _ _ _ _ _ _ _ _ (sym (after-skips .skips .ensures) ∙ after-if1 .if1 .left) (sym (after-part .part .ensures) ∙ after-b3 .b3 .given .1)))
     (λ c. join-broken _ _ _ _ _ _ _ _ _ (sym (c .before .before .before .part .ensures) ∙ c .before .b4 .given .1))

@@ -29,8 +29,9 @@ returns : tie.Need-returns
 returns c =
     let g = c .before .before .before .before .before .before .before .before .before in
     let s = start g in
-    let a = rw (g .before .before .before .before .before .before .before .before .put-state .ensures) at (g .take-in .ensures .0) ∙ take-of-image (s .args .state) (whole s) (alarms s) in
-    let e = rw (g .before .before .before .before .before .before .before .before .put-state .ensures) at (g .take-in .ensures .1) in
+    let put = g .before .before .before .before .before .before .before .before in
+    let a = rw (put .put-state .ensures) at (g .take-in .ensures .0) ∙ take-of-image (s .args .state) (whole s) (alarms s) in
+    let e = rw (put .put-state .ensures) at (g .take-in .ensures .1) in
     let b = c .state-in .ensures ∙ ap stateIn e ∙ after-take (s .args .state) (whole s) (alarms s) .state in
     rw (a, b)
 

@@ -52,19 +52,55 @@ pub +pass-spec : {M : Type 1} → statement M
     (λ c. omega (arith, sound _ _ _ _ _ (sym (c .before .before .before .head .ensures) ∙ c .before .h3 .given .1)))
     (λ c. omega (arith, sound _ _ _ _ _ (sym (c .before .before .before .head .ensures) ∙ c .before .h3 .given .1)))
     (λ c. omega (arith, sound _ _ _ _ _ (sym (c .before .before .before .head .ensures) ∙ c .before .h3 .given .1)))
-    (λ c. (omega (arith, c .before .before .before .before .loop .inv .0), c .before .before .before .before .loop .inv .1 ∙ on-one _ _ _ _ _ (sym (c .before .before .before .head .ensures) ∙ c .before .h3 .given .1)))
+    (λ c.
+    let after-head = c .before .before .before in
+    let after-loop = after-head .before in
+    (omega (arith, after-loop .loop .inv .0), after-loop .loop .inv .1 ∙ on-one _ _ _ _ _ (sym (after-head .head .ensures) ∙ c .before .h3 .given .1)))
     (λ c. search needs)
     (λ c. omega (arith, sound _ _ _ _ _ (sym (c .before .before .before .head .ensures) ∙ c .before .h4 .given .1)))
     (λ c. omega (arith, sound _ _ _ _ _ (sym (c .before .before .before .head .ensures) ∙ c .before .h4 .given .1)))
     (λ c κs. search needs)
     (λ c. search needs)
     (λ c. omega (arith, sound _ _ _ _ _ (sym (c .before .before .before .head2 .ensures) ∙ c .before .g .given .1)))
-    (λ c. omega (arith, sound _ _ _ _ _ (sym (c .before .before .before .before .before .before .before .head .ensures) ∙ c .before .before .before .before .before .h4 .given .1)))
-    (λ c. (omega (arith, c .before .before .before .before .before .before .before .before .loop .inv .0), c .before .before .before .before .before .before .before .before .loop .inv .1 ∙ on-two-leaf _ _ _ _ _ (sym (c .before .before .before .before .before .before .before .head .ensures) ∙ c .before .before .before .before .before .h4 .given .1) (sym (c .before .before .before .head2 .ensures) ∙ c .before .g .given .1)))
+    (λ c.
+    let after-h4 = c .before .before .before .before .before in
+    let after-head = after-h4 .before .before in
+    omega (arith, sound _ _ _ _ _ (sym (after-head .head .ensures) ∙ after-h4 .h4 .given .1)))
+    (λ c.
+    let after-head2 = c .before .before .before in
+    let after-h4 = after-head2 .before .before in
+    let after-head = after-h4 .before .before in
+    let after-loop = after-head .before in (
+      omega (arith, after-loop .loop .inv .0),
+      after-loop .loop .inv .1 ∙ on-two-leaf _ _ _ _ _ (sym (after-head .head .ensures) ∙ after-h4 .h4 .given .1)
+          (sym (after-head2 .head2 .ensures) ∙ c .before .g .given .1),
+    ))
     (λ c. omega (arith, sound _ _ _ _ _ (sym (c .before .before .before .before .before .head .ensures) ∙ c .before .before .before .h4 .given .1)))
-    (λ c κs. (omega (arith, c .before .before .before .before .before .before .loop .inv .0, sound _ _ _ _ _ (sym (c .before .before .before .before .before .head .ensures) ∙ c .before .before .before .h4 .given .1)), tt))
+    (λ c κs.
+    let after-h4 = c .before .before .before in
+    let after-head = after-h4 .before .before in
+    let after-loop = after-head .before in
+    (omega (arith, after-loop .loop .inv .0, sound _ _ _ _ _ (sym (after-head .head .ensures) ∙ after-h4 .h4 .given .1)), tt))
     (λ c. search needs)
-    (λ c. omega (arith, sound _ _ _ _ _ (sym (c .before .before .before .before .before .before .before .before .before .head .ensures) ∙ c .before .before .before .before .before .before .before .h4 .given .1)))
-    (λ c. (omega (arith, c .before .before .before .before .before .before .before .before .before .before .loop .inv .0), c .before .before .before .before .before .before .before .before .before .before .loop .inv .1 ∙ on-two _ _ _ _ _ (sym (c .before .before .before .before .before .before .before .before .before .head .ensures) ∙ c .before .before .before .before .before .before .before .h4 .given .1) (sym (c .before .before .before .pass .ensures) ∙ c .before .a .given .1)))
+    (λ c.
+    let after-h4 = c .before .before .before .before .before .before .before in
+    let after-head = after-h4 .before .before in
+    omega (arith, sound _ _ _ _ _ (sym (after-head .head .ensures) ∙ after-h4 .h4 .given .1)))
+    (λ c.
+    let after-pass = c .before .before .before in
+    let after-h4 = after-pass .before .before .before .before in
+    let after-head = after-h4 .before .before in
+    let after-loop = after-head .before in (
+      omega (arith, after-loop .loop .inv .0),
+      after-loop .loop .inv .1 ∙ on-two _ _ _ _ _ (sym (after-head .head .ensures) ∙ after-h4 .h4 .given .1)
+          (sym (after-pass .pass .ensures) ∙ c .before .a .given .1),
+    ))
     (λ c. search needs)
-    (λ c. sym (c .before .before .before .before .before .before .before .before .before .before .loop .inv .1 ∙ on-fault _ _ _ _ _ (sym (c .before .before .before .before .before .before .before .before .before .head .ensures) ∙ c .before .before .before .before .before .before .before .h4 .given .1) (sym (c .before .before .before .pass .ensures) ∙ c .before .a2 .given .1)))
+    (λ c.
+    let after-pass = c .before .before .before in
+    let after-h4 = after-pass .before .before .before .before in
+    let after-head = after-h4 .before .before in
+    let after-loop = after-head .before in
+    sym
+    (after-loop .loop .inv .1 ∙ on-fault _ _ _ _ _ (sym (after-head .head .ensures) ∙ after-h4 .h4 .given .1)
+    (sym (after-pass .pass .ensures) ∙ c .before .a2 .given .1)))

@@ -8,11 +8,29 @@ use Rattle.numbers.proofs.read_number.Tie as tie
 
 returns : tie.Need-returns
 unfolding typedAt
-returns c = rw (sym (c .before .before .before .before .before .before .before .number .ensures) ∙ c .before .before .before .before .before .n .given .1, sym (c .before .before .before .allow .ensures) ∙ c .before .before .if1 .taken, sym (c .before .is-marked .ensures) ∙ c .if2 .taken)
+returns c =
+    let after-if1 = c .before .before in
+    let after-allow = after-if1 .before in
+    let after-n = after-allow .before .before in
+    let after-number = after-n .before .before in
+    rw (
+      sym (after-number .number .ensures) ∙ after-n .n .given .1,
+      sym (after-allow .allow .ensures) ∙ after-if1 .if1 .taken,
+      sym (c .before .is-marked .ensures) ∙ c .if2 .taken,
+    )
 
 returns-2 : tie.Need-returns-2
 unfolding typedAt
-returns-2 c = rw (sym (c .before .before .before .before .before .before .before .number .ensures) ∙ c .before .before .before .before .before .n .given .1, sym (c .before .before .before .allow .ensures) ∙ c .before .before .if1 .taken, sym (c .before .is-marked .ensures) ∙ c .if2 .left)
+returns-2 c =
+    let after-if1 = c .before .before in
+    let after-allow = after-if1 .before in
+    let after-n = after-allow .before .before in
+    let after-number = after-n .before .before in
+    rw (
+      sym (after-number .number .ensures) ∙ after-n .n .given .1,
+      sym (after-allow .allow .ensures) ∙ after-if1 .if1 .taken,
+      sym (c .before .is-marked .ensures) ∙ c .if2 .left,
+    )
 
 returns-3 : tie.Need-returns-3
 unfolding typedAt
@@ -24,7 +42,10 @@ returns-4 c = rw (sym (c .before .before .number .ensures) ∙ c .enum-told2 .gi
 
 returns-5 : tie.Need-returns-5
 unfolding typedAt
-returns-5 c = rw (sym (c .before .before .before .before .before .number .ensures) ∙ c .before .before .before .n .given .1, sym (c .before .allow .ensures) ∙ c .if1 .left)
+returns-5 c =
+    let after-n = c .before .before .before in
+    let after-number = after-n .before .before in
+    rw (sym (after-number .number .ensures) ∙ after-n .n .given .1, sym (c .before .allow .ensures) ∙ c .if1 .left)
 
 pub read-number-spec : {M : Type 1} → statement M
 read-number-spec =

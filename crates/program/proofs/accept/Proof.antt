@@ -18,7 +18,25 @@ accept-spec =
     (λ c κs. search needs)
     (λ c. search needs)
     (λ c κs. search needs)
-    (λ c. c .refuse3 .ensures ∙ accept-over _ _ (c .before .before .before .before .before .before .before .before .before .before .read-program .ensures) _ (c .before .before .before .before .before .read-program2 .ensures) (c .before .before .before .before .before .before .before .before .enum-told .given .1) (c .before .before .before .enum-told2 .given .1) (c .before .if1 .taken))
+    (λ c.
+    let after-enum-told2 = c .before .before .before in
+    let after-read-program2 = after-enum-told2 .before .before in
+    let after-enum-told = after-read-program2 .before .before .before in
+    let after-read-program = after-enum-told .before .before in
+    c .refuse3 .ensures ∙ accept-over _ _ (after-read-program .read-program .ensures) _ (after-read-program2 .read-program2 .ensures)
+    (after-enum-told .enum-told .given .1) (after-enum-told2 .enum-told2 .given .1) (c .before .if1 .taken))
     (λ c. c .refuse .ensures ∙ accept-stop _ _ (c .before .before .before .before .read-program .ensures) (c .before .before .e .given .1))
-    (λ c. c .refuse2 .ensures ∙ accept-astray _ _ (c .before .before .before .before .before .before .before .before .before .read-program .ensures) _ (c .before .before .before .before .read-program2 .ensures) (c .before .before .before .before .before .before .before .enum-told .given .1) (c .before .before .f .given .1))
-    (λ c. accept-good _ _ (c .before .before .before .before .before .before .before .before .before .read-program .ensures) _ (c .before .before .before .before .read-program2 .ensures) (c .before .before .before .before .before .before .before .enum-told .given .1) (c .before .before .enum-told2 .given .1) (c .if1 .left)))
+    (λ c.
+    let after-f = c .before .before in
+    let after-read-program2 = after-f .before .before in
+    let after-enum-told = after-read-program2 .before .before .before in
+    let after-read-program = after-enum-told .before .before in
+    c .refuse2 .ensures ∙ accept-astray _ _ (after-read-program .read-program .ensures) _ (after-read-program2 .read-program2 .ensures)
+    (after-enum-told .enum-told .given .1) (after-f .f .given .1))
+    (λ c.
+    let after-enum-told2 = c .before .before in
+    let after-read-program2 = after-enum-told2 .before .before in
+    let after-enum-told = after-read-program2 .before .before .before in
+    let after-read-program = after-enum-told .before .before in
+    accept-good _ _ (after-read-program .read-program .ensures) _ (after-read-program2 .read-program2 .ensures) (after-enum-told .enum-told .given .1)
+    (after-enum-told2 .enum-told2 .given .1) (c .if1 .left)))

@@ -16,7 +16,24 @@ read-alarms-spec =
     (λ c κs. search needs)
     (λ c. search needs)
     (λ c. search needs)
-    (λ c. alarms-more _ _ _ (typed-got _ _ _ _ _ (sym (c .before .before .before .before .before .before .before .before .read-number .ensures) ∙ c .before .before .before .before .before .before .c2 .given .1)) (sym (c .before .before .before .before .read-references .ensures) ∙ c .before .before .r .given .1) (c .if1 .taken))
+    (λ c.
+    let after-r = c .before .before in
+    let after-read-references = after-r .before .before in
+    let after-c2 = after-read-references .before .before in
+    let after-read-number = after-c2 .before .before in
+    alarms-more _ _ _ (typed-got _ _ _ _ _ (sym (after-read-number .read-number .ensures) ∙ after-c2 .c2 .given .1))
+    (sym (after-read-references .read-references .ensures) ∙ after-r .r .given .1) (c .if1 .taken))
     (λ c. alarms-bad _ _ _ (typed-fault _ _ _ _ _ (sym (c .before .before .before .read-number .ensures) ∙ c .before .c .given .1)))
-    (λ c. c .enum-told .given .1 ∙ alarms-stop _ _ _ (typed-got _ _ _ _ _ (sym (c .before .before .before .before .before .before .read-number .ensures) ∙ c .before .before .before .before .c2 .given .1)) (sym (c .before .before .read-references .ensures) ∙ c .enum-told .given .1))
-    (λ c. alarms-end _ _ _ (typed-got _ _ _ _ _ (sym (c .before .before .before .before .before .before .before .before .read-number .ensures) ∙ c .before .before .before .before .before .before .c2 .given .1)) (sym (c .before .before .before .before .read-references .ensures) ∙ c .before .before .r .given .1) (c .if1 .left)))
+    (λ c.
+    let after-read-references = c .before .before in
+    let after-c2 = after-read-references .before .before in
+    let after-read-number = after-c2 .before .before in
+    c .enum-told .given .1 ∙ alarms-stop _ _ _ (typed-got _ _ _ _ _ (sym (after-read-number .read-number .ensures) ∙ after-c2 .c2 .given .1))
+    (sym (after-read-references .read-references .ensures) ∙ c .enum-told .given .1))
+    (λ c.
+    let after-r = c .before .before in
+    let after-read-references = after-r .before .before in
+    let after-c2 = after-read-references .before .before in
+    let after-read-number = after-c2 .before .before in
+    alarms-end _ _ _ (typed-got _ _ _ _ _ (sym (after-read-number .read-number .ensures) ∙ after-c2 .c2 .given .1))
+    (sym (after-read-references .read-references .ensures) ∙ after-r .r .given .1) (c .if1 .left)))

@@ -24,6 +24,28 @@ read-program-spec =
     (λ c κs. search needs)
     (λ c. search needs)
     (λ c. c .blank .ensures ∙ program-bad _ _ (typed-fault _ _ _ _ _ (sym (c .before .before .before .before .read-number .ensures) ∙ c .before .before .c .given .1)))
-    (λ c. program-stop _ _ (typed-got _ _ _ _ _ (sym (c .before .before .before .before .before .before .read-number .ensures) ∙ c .before .before .before .before .c2 .given .1)) _ (c .before .before .read-blocks .ensures) (c .enum-told .given .1))
-    (λ c. c .blank2 .ensures ∙ program-no-alarms _ _ (typed-got _ _ _ _ _ (sym (c .before .before .before .before .before .before .before .before .before .before .before .before .read-number .ensures) ∙ c .before .before .before .before .before .before .before .before .before .before .c2 .given .1)) _ (c .before .before .before .before .before .before .before .before .read-blocks .ensures) (c .before .before .before .before .before .before .e .given .1) (sym (c .before .before .before .before .read-alarms .ensures) ∙ c .before .before .a .given .1))
-    (λ c. let e = typed-got _ _ _ _ _ (sym (c .before .before .before .before .before .before .before .before .before .before .before .before .read-number .ensures) ∙ c .before .before .before .before .before .before .before .before .before .before .c2 .given .1) in program-whole _ _ e _ (c .before .before .before .before .before .before .before .before .read-blocks .ensures) (omega (arith, typed-below _ _ _ _ _ e)) (c .before .before .before .before .before .before .e .given .1) (sym (c .before .before .before .before .read-alarms .ensures) ∙ c .before .before .a2 .given .1)))
+    (λ c.
+    let after-read-blocks = c .before .before in
+    let after-c2 = after-read-blocks .before .before in
+    let after-read-number = after-c2 .before .before in
+    program-stop _ _ (typed-got _ _ _ _ _ (sym (after-read-number .read-number .ensures) ∙ after-c2 .c2 .given .1)) _
+    (after-read-blocks .read-blocks .ensures) (c .enum-told .given .1))
+    (λ c.
+    let after-a = c .before .before in
+    let after-read-alarms = after-a .before .before in
+    let after-e = after-read-alarms .before .before in
+    let after-read-blocks = after-e .before .before in
+    let after-c2 = after-read-blocks .before .before in
+    let after-read-number = after-c2 .before .before in
+    c .blank2 .ensures ∙ program-no-alarms _ _ (typed-got _ _ _ _ _ (sym (after-read-number .read-number .ensures) ∙ after-c2 .c2 .given .1)) _
+    (after-read-blocks .read-blocks .ensures) (after-e .e .given .1) (sym (after-read-alarms .read-alarms .ensures) ∙ after-a .a .given .1))
+    (λ c.
+    let after-a2 = c .before .before in
+    let after-read-alarms = after-a2 .before .before in
+    let after-e = after-read-alarms .before .before in
+    let after-read-blocks = after-e .before .before in
+    let after-c2 = after-read-blocks .before .before in
+    let after-read-number = after-c2 .before .before in
+    let e = typed-got _ _ _ _ _ (sym (after-read-number .read-number .ensures) ∙ after-c2 .c2 .given .1) in
+    program-whole _ _ e _ (after-read-blocks .read-blocks .ensures) (omega (arith, typed-below _ _ _ _ _ e)) (after-e .e .given .1)
+    (sym (after-read-alarms .read-alarms .ensures) ∙ after-a2 .a2 .given .1)))

@@ -24,9 +24,20 @@ read-references-spec =
     (λ c. refl)
     (λ c κs. search needs)
     (λ c. search needs)
-    (λ c. sym (c .before .before .before .before .before .loop .inv ∙ references-stop _ _ _ (c .before .before .before .before .loop-test .taken) (typed-fault _ _ _ _ _ (sym (c .before .before .before .read-number .ensures) ∙ c .before .r .given .1))))
+    (λ c.
+    let after-read-number = c .before .before .before in
+    let after-loop-test = after-read-number .before in
+    let after-loop = after-loop-test .before in
+    sym
+    (after-loop .loop .inv ∙ references-stop _ _ _ (after-loop-test .loop-test .taken)
+    (typed-fault _ _ _ _ _ (sym (after-read-number .read-number .ensures) ∙ c .before .r .given .1))))
     (λ c. search needs)
     (λ c. search needs)
     (λ c. search needs)
-    (λ c. c .before .before .before .before .before .loop .inv ∙ references-got _ _ _ (c .before .before .before .before .loop-test .taken) (typed-got _ _ _ _ _ (sym (c .before .before .before .read-number .ensures) ∙ c .before .r2 .given .1)))
+    (λ c.
+    let after-read-number = c .before .before .before in
+    let after-loop-test = after-read-number .before in
+    let after-loop = after-loop-test .before in
+    after-loop .loop .inv ∙ references-got _ _ _ (after-loop-test .loop-test .taken)
+    (typed-got _ _ _ _ _ (sym (after-read-number .read-number .ensures) ∙ c .before .r2 .given .1)))
     (λ c. sym (c .before .loop .inv ∙ references-end _ _ _ (omega arith))))

@@ -24,7 +24,10 @@ use Rattle.promises.proofs.worked_examples.Statement.{statement}
 use Rattle.promises.proofs.worked_examples.Tie as tie
 
 all : AllShown examples
-unfolding groupsAt groupsOf numberAt allowed bitRef contentOf excepted saidBy figureFor kindOf markFor wordRef blockAt contentAt exprAt fieldsAt headAt marked typedAt alarmsAt blocksAt endAt programAt referencesAt accepted marksOf gateOf skipsOf bl dl fl flTicks holdWord og same scaled st ticksIn ud udWord ruleOf ruled empty freshJournal goodJournal noStamp numbered risen risesFrom storedAll freshState goodPlace goodState alarmWord scanTo stepsTo answered late scanOf seenIn
+unfolding groupsAt groupsOf numberAt allowed bitRef contentOf excepted saidBy figureFor kindOf markFor wordRef blockAt contentAt exprAt fieldsAt
+    headAt marked typedAt alarmsAt blocksAt endAt programAt referencesAt accepted marksOf gateOf skipsOf bl dl fl flTicks holdWord og same scaled st
+    ticksIn ud udWord ruleOf ruled empty freshJournal goodJournal noStamp numbered risen risesFrom storedAll freshState goodPlace goodState alarmWord
+    scanTo stepsTo answered late scanOf seenIn
 all = (refl, (refl, (refl, (refl, (refl, (refl, (refl, (refl, (refl, (refl, (refl, (refl, (refl, tt)))))))))))))
 
 returns : tie.Need-returns

@@ -11,7 +11,12 @@ last : (c : tie.At-match-rest) → c .before .args .kind ≡ 12
 last c =
     let r = c .match .rest in
     let no-bl : c .before .args .kind ≡ 0 → ⊥ = λ z. no-row (c .before .args .f) (rw z at (c .before .pre .1)) in
-    let h : 12 ≤ c .before .args .kind = past (past (past (past (past (past (past (past (past (past (past (past zero-le no-bl) (r .0 .0 .0 .0 .0 .0 .0 .0 .0 .0 .1)) (r .0 .0 .0 .0 .0 .0 .0 .0 .0 .1)) (r .0 .0 .0 .0 .0 .0 .0 .0 .1)) (r .0 .0 .0 .0 .0 .0 .0 .1)) (r .0 .0 .0 .0 .0 .0 .1)) (r .0 .0 .0 .0 .0 .1)) (r .0 .0 .0 .0 .1)) (r .0 .0 .0 .1)) (r .0 .0 .1)) (r .0 .1)) (r .1) in
+    -- not SR, .., not ZC, from the first on
+    let up : 6 ≤ c .before .args .kind =
+    past (past (past (past (past (past zero-le no-bl) (r .0 .0 .0 .0 .0 .0 .0 .0 .0 .0 .1)) (r .0 .0 .0 .0 .0 .0 .0 .0 .0 .1))
+    (r .0 .0 .0 .0 .0 .0 .0 .0 .1)) (r .0 .0 .0 .0 .0 .0 .0 .1)) (r .0 .0 .0 .0 .0 .0 .1) in
+    let h : 12 ≤ c .before .args .kind =
+    past (past (past (past (past (past up (r .0 .0 .0 .0 .0 .1)) (r .0 .0 .0 .0 .1)) (r .0 .0 .0 .1)) (r .0 .0 .1)) (r .0 .1)) (r .1) in
     let l : c .before .args .kind < kindCount = c .before .pre .0 in
     only h l
 

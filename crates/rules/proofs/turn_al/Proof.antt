@@ -21,4 +21,8 @@ turn-al-spec =
     (λ c κs. search needs)
     (λ c κs. search needs)
     (λ c κs. search needs)
-    (λ c. rw (c .pin .ensures, c .before .pack .ensures, c .before .before .al .ensures, c .before .before .before .bit2 .ensures, c .before .before .before .before .bit .ensures)))
+    (λ c.
+    let after-al = c .before .before in
+    let after-bit2 = after-al .before in
+    let after-bit = after-bit2 .before in
+    rw (c .pin .ensures, c .before .pack .ensures, after-al .al .ensures, after-bit2 .bit2 .ensures, after-bit .bit .ensures)))

@@ -26,4 +26,16 @@ turn-cn-spec =
     (λ c κs. search needs)
     (λ c κs. search needs)
     (λ c κs. search needs)
-    (λ c. rw (c .pin .ensures, c .before .pack .ensures, c .before .before .cn .ensures, toZ-ofZ {w = w16} (small-fits (below (typesOf 7) _ (c .before .before .before .before .before .pre) 2 (lit< tt))), c .before .before .before .bit2 .ensures, c .before .before .before .before .bit .ensures)))
+    (λ c.
+    let after-cn = c .before .before in
+    let after-bit2 = after-cn .before in
+    let after-bit = after-bit2 .before in
+    let start = after-bit .before in
+    rw (
+      c .pin .ensures,
+      c .before .pack .ensures,
+      after-cn .cn .ensures,
+      toZ-ofZ {w = w16} (small-fits (below (typesOf 7) _ (start .pre) 2 (lit< tt))),
+      after-bit2 .bit2 .ensures,
+      after-bit .bit .ensures,
+    )))

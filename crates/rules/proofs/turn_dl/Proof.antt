@@ -25,4 +25,8 @@ turn-dl-spec =
     (λ c κs. (le-of-suc-le-suc (below (typesOf 4) _ (c .before .before .pre) 3 (lit< tt)), le-of-suc-le-suc (below (typesOf 4) _ (c .before .before .pre) 4 (lit< tt))))
     (λ c κs. search needs)
     (λ c κs. search needs)
-    (λ c. rw (c .pin .ensures, c .before .pack .ensures, c .before .before .dl .ensures, c .before .before .before .bit2 .ensures, c .before .before .before .before .bit .ensures)))
+    (λ c.
+    let after-dl = c .before .before in
+    let after-bit2 = after-dl .before in
+    let after-bit = after-bit2 .before in
+    rw (c .pin .ensures, c .before .pack .ensures, after-dl .dl .ensures, after-bit2 .bit2 .ensures, after-bit .bit .ensures)))

@@ -20,7 +20,10 @@ turn-fl-spec =
     (λ c. search needs)
     (λ c. search needs)
     (λ c. search needs)
-    (λ c κs. (le-of-suc-le-suc (below (typesOf 6) _ (c .before .pre) 2 (lit< tt)), (le-of-suc-le-suc (below (typesOf 6) _ (c .before .pre) 3 (lit< tt)), off-allowed _ _ (here (typesOf 6) _ (c .before .pre) 3 (lit< tt)))))
+    (λ c κs. (
+      le-of-suc-le-suc (below (typesOf 6) _ (c .before .pre) 2 (lit< tt)),
+      (le-of-suc-le-suc (below (typesOf 6) _ (c .before .pre) 3 (lit< tt)), off-allowed _ _ (here (typesOf 6) _ (c .before .pre) 3 (lit< tt))),
+    ))
     (λ c κs. search needs)
     (λ c κs. search needs)
     (λ c. rw (c .pin .ensures, c .before .pack .ensures, c .before .before .fl .ensures, c .before .before .before .bit .ensures)))

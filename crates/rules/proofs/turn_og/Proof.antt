@@ -31,7 +31,31 @@ turn-og-spec =
     (λ c κs. search needs)
     (λ c. search needs)
     (λ c κs. word-allowed _ _ (here (typesOf 10) _ (c .before .before .before .before .pre) 4 (lit< tt)))
-    (λ c κs. rw (toZ-ofZ {w = w16} {z = c .before .before .signed2 .result} (record { sfits = c .before .before .signed2 .ok }), c .before .before .signed2 .ensures) (not-zero _ (divisor-allowed _ _ (here (typesOf 10) _ (c .before .before .before .before .before .pre) 2 (lit< tt)))))
+    (λ c κs.
+    let after-signed2 = c .before .before in
+    let start = after-signed2 .before .before .before in
+    rw (toZ-ofZ {w = w16} {z = after-signed2 .signed2 .result} (record { sfits = after-signed2 .signed2 .ok }), after-signed2 .signed2 .ensures)
+    (not-zero _ (divisor-allowed _ _ (here (typesOf 10) _ (start .pre) 2 (lit< tt)))))
     (λ c κs. search needs)
     (λ c κs. search needs)
-    (λ c. rw (c .pin .ensures, c .before .pack .ensures, c .before .before .og .ensures, toZ-ofZ {w = w16} {z = c .before .before .before .word .result} (record { sfits = c .before .before .before .word .ok }), c .before .before .before .word .ensures, toZ-ofZ {w = w16} {z = c .before .before .before .before .signed3 .result} (record { sfits = c .before .before .before .before .signed3 .ok }), c .before .before .before .before .signed3 .ensures, toZ-ofZ {w = w16} {z = c .before .before .before .before .before .signed2 .result} (record { sfits = c .before .before .before .before .before .signed2 .ok }), c .before .before .before .before .before .signed2 .ensures, toZ-ofZ {w = w16} {z = c .before .before .before .before .before .before .signed .result} (record { sfits = c .before .before .before .before .before .before .signed .ok }), c .before .before .before .before .before .before .signed .ensures, c .before .before .before .before .before .before .before .bit .ensures)))
+    (λ c.
+    let after-og = c .before .before in
+    let after-word = after-og .before in
+    let after-signed3 = after-word .before in
+    let after-signed2 = after-signed3 .before in
+    let after-signed = after-signed2 .before in
+    let after-bit = after-signed .before in
+    rw (
+      c .pin .ensures,
+      c .before .pack .ensures,
+      after-og .og .ensures,
+      toZ-ofZ {w = w16} {z = after-word .word .result} (record { sfits = after-word .word .ok }),
+      after-word .word .ensures,
+      toZ-ofZ {w = w16} {z = after-signed3 .signed3 .result} (record { sfits = after-signed3 .signed3 .ok }),
+      after-signed3 .signed3 .ensures,
+      toZ-ofZ {w = w16} {z = after-signed2 .signed2 .result} (record { sfits = after-signed2 .signed2 .ok }),
+      after-signed2 .signed2 .ensures,
+      toZ-ofZ {w = w16} {z = after-signed .signed .result} (record { sfits = after-signed .signed .ok }),
+      after-signed .signed .ensures,
+      after-bit .bit .ensures,
+    )))

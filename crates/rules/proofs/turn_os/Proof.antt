@@ -24,4 +24,8 @@ turn-os-spec =
     (λ c κs. le-of-suc-le-suc (below (typesOf 5) _ (c .before .before .pre) 3 (lit< tt)))
     (λ c κs. search needs)
     (λ c κs. search needs)
-    (λ c. rw (c .pin .ensures, c .before .pack .ensures, c .before .before .os .ensures, c .before .before .before .bit2 .ensures, c .before .before .before .before .bit .ensures)))
+    (λ c.
+    let after-os = c .before .before in
+    let after-bit2 = after-os .before in
+    let after-bit = after-bit2 .before in
+    rw (c .pin .ensures, c .before .pack .ensures, after-os .os .ensures, after-bit2 .bit2 .ensures, after-bit .bit .ensures)))

@@ -22,4 +22,8 @@ turn-sr-spec =
     (λ c κs. search needs)
     (λ c κs. search needs)
     (λ c κs. search needs)
-    (λ c. rw (c .pin .ensures, c .before .pack .ensures, c .before .before .sr .ensures, c .before .before .before .bit2 .ensures, c .before .before .before .before .bit .ensures)))
+    (λ c.
+    let after-sr = c .before .before in
+    let after-bit2 = after-sr .before in
+    let after-bit = after-bit2 .before in
+    rw (c .pin .ensures, c .before .pack .ensures, after-sr .sr .ensures, after-bit2 .bit2 .ensures, after-bit .bit .ensures)))

@@ -31,4 +31,21 @@ turn-ud-spec =
     (λ c κs. search needs)
     (λ c κs. search needs)
     (λ c κs. search needs)
-    (λ c. rw (c .pin .ensures, c .before .pack .ensures, c .before .before .ud .ensures, toZ-ofZ {w = w16} {z = c .before .before .before .signed .result} (record { sfits = c .before .before .before .signed .ok }), c .before .before .before .signed .ensures, c .before .before .before .before .bit4 .ensures, c .before .before .before .before .before .bit3 .ensures, c .before .before .before .before .before .before .bit2 .ensures, c .before .before .before .before .before .before .before .bit .ensures)))
+    (λ c.
+    let after-ud = c .before .before in
+    let after-signed = after-ud .before in
+    let after-bit4 = after-signed .before in
+    let after-bit3 = after-bit4 .before in
+    let after-bit2 = after-bit3 .before in
+    let after-bit = after-bit2 .before in
+    rw (
+      c .pin .ensures,
+      c .before .pack .ensures,
+      after-ud .ud .ensures,
+      toZ-ofZ {w = w16} {z = after-signed .signed .result} (record { sfits = after-signed .signed .ok }),
+      after-signed .signed .ensures,
+      after-bit4 .bit4 .ensures,
+      after-bit3 .bit3 .ensures,
+      after-bit2 .bit2 .ensures,
+      after-bit .bit .ensures,
+    )))

@@ -17,8 +17,17 @@ word-spec =
     (tie.spec
     (λ c. search needs)
     (λ c. search needs)
-    (λ c. let f : SFits w16 (getD (c .before .before .args .words .now) (c .before .before .args .r) (pos 0)) = search needs in rw (toZ-ofZ f) (word-low _ _ (c .before .if1 .taken)))
+    (λ c.
+    let f : SFits w16 (getD (c .before .before .args .words .now) (c .before .before .args .r) (pos 0)) = search needs in
+    rw (toZ-ofZ f) (word-low _ _ (c .before .if1 .taken)))
     (λ c. plain-fits (omega (arith, word-constant _ (c .before .pre) (c .if1 .left))))
     (λ c. let r = c .before .args .r in let b = word-constant r (c .before .pre) (c .if1 .left) in rw (plain r (omega arith)) (wide r 33768 (omega arith) (omega arith)))
-    (λ c. let r = c .before .args .r in let b = word-constant r (c .before .pre) (c .if1 .left) in rw (plain r (omega arith), toZ-ofZ (wide r 33768 (omega arith) (omega arith))) (narrow r 33768 (omega arith) (omega arith)))
-    (λ c. let r = c .before .args .r in let b = word-constant r (c .before .pre) (c .if1 .left) in rw (plain r (omega arith), toZ-ofZ (wide r 33768 (omega arith) (omega arith)), toZ-ofZ (narrow r 33768 (omega arith) (omega arith))) (word-high _ r (c .if1 .left))))
+    (λ c.
+    let r = c .before .args .r in
+    let b = word-constant r (c .before .pre) (c .if1 .left) in
+    rw (plain r (omega arith), toZ-ofZ (wide r 33768 (omega arith) (omega arith))) (narrow r 33768 (omega arith) (omega arith)))
+    (λ c.
+    let r = c .before .args .r in
+    let b = word-constant r (c .before .pre) (c .if1 .left) in
+    rw (plain r (omega arith), toZ-ofZ (wide r 33768 (omega arith) (omega arith)), toZ-ofZ (narrow r 33768 (omega arith) (omega arith)))
+    (word-high _ r (c .if1 .left))))

@@ -17,8 +17,12 @@ last c = let h = c .before .pre in let r = c .match .rest in omega (arith, h .0,
 returns : tie.Need-returns
 unfolding contents contentOf kindOf
 returns c =
-    let a = c .before .before .before .before .before .args in
-    rw (c .before .before .before .before .match .keys1) (asks-two (a .asked .now) (wordRef (getD (a .t2) 2 0)) (wordRef (getD (a .t2) 3 0)) (c .before .before .ask-word .ensures) (c .ask-word2 .ensures))
+    let after-ask-word = c .before .before in
+    let after-match = after-ask-word .before .before in
+    let start = after-match .before in
+    let a = start .args in
+    rw (after-match .match .keys1)
+    (asks-two (a .asked .now) (wordRef (getD (a .t2) 2 0)) (wordRef (getD (a .t2) 3 0)) (after-ask-word .ask-word .ensures) (c .ask-word2 .ensures))
 
 returns-2 : tie.Need-returns-2
 unfolding contents contentOf kindOf
@@ -27,14 +31,26 @@ returns-2 c = rw (c .before .before .match .keys2) (c .ask-word3 .ensures)
 returns-3 : tie.Need-returns-3
 unfolding contents contentOf kindOf
 returns-3 c =
-    let a = c .before .before .before .before .before .before .before .args in
-    rw (c .before .before .before .before .before .before .match .keys3) (asks-three (a .asked .now) (wordRef (getD (a .t2) 2 0)) (wordRef (getD (a .t2) 3 0)) (wordRef (getD (a .t2) 4 0)) (c .before .before .before .before .ask-word4 .ensures) (c .before .before .ask-word5 .ensures) (c .ask-word6 .ensures))
+    let after-ask-word5 = c .before .before in
+    let after-ask-word4 = after-ask-word5 .before .before in
+    let after-match = after-ask-word4 .before .before in
+    let start = after-match .before in
+    let a = start .args in
+    rw (after-match .match .keys3)
+    (asks-three (a .asked .now) (wordRef (getD (a .t2) 2 0)) (wordRef (getD (a .t2) 3 0)) (wordRef (getD (a .t2) 4 0))
+    (after-ask-word4 .ask-word4 .ensures) (after-ask-word5 .ask-word5 .ensures) (c .ask-word6 .ensures))
 
 returns-4 : tie.Need-returns-4
 unfolding contents contentOf kindOf
 returns-4 c =
-    let a = c .before .before .before .before .before .before .before .args in
-    rw (last (c .before .before .before .before .before .before)) (asks-three (a .asked .now) (wordRef (getD (a .t2) 1 0)) (wordRef (getD (a .t2) 2 0)) (wordRef (getD (a .t2) 3 0)) (c .before .before .before .before .ask-word7 .ensures) (c .before .before .ask-word8 .ensures) (c .ask-word9 .ensures))
+    let after-ask-word8 = c .before .before in
+    let after-ask-word7 = after-ask-word8 .before .before in
+    let matched = after-ask-word7 .before .before in
+    let start = matched .before in
+    let a = start .args in
+    rw (last matched)
+    (asks-three (a .asked .now) (wordRef (getD (a .t2) 1 0)) (wordRef (getD (a .t2) 2 0)) (wordRef (getD (a .t2) 3 0))
+    (after-ask-word7 .ask-word7 .ensures) (after-ask-word8 .ask-word8 .ensures) (c .ask-word9 .ensures))
 
 pub ask-words-spec : {M : Type 1} → statement M
 ask-words-spec =

@@ -37,6 +37,9 @@ turn-spec =
     (λ c κs. search needs)
     returns
     (λ c. omega (arith, typed-below _ _ _ _ _ (typed-got _ _ _ _ _ (sym (c .before .before .before .before .read-number .ensures) ∙ c .before .before .n2 .given .1))))
-    (λ c κs. (typed-below _ _ _ _ _ (typed-got _ _ _ _ _ (sym (c .before .before .before .before .before .read-number .ensures) ∙ c .before .before .before .n2 .given .1)), omega arith))
+    (λ c κs.
+    let after-n2 = c .before .before .before in
+    let after-read-number = after-n2 .before .before in
+    (typed-below _ _ _ _ _ (typed-got _ _ _ _ _ (sym (after-read-number .read-number .ensures) ∙ after-n2 .n2 .given .1)), omega arith))
     returns-2
     returns-3)

@@ -19,7 +19,15 @@ turn-bl-spec =
     (λ c κs. search needs)
     (λ c. omega (arith, bl-left _ _ _ _ (sym (c .before .before .before .before .before .eval .ensures) ∙ c .before .before .before .v2 .given .1)))
     (λ c. search needs)
-    (λ c. omega (arith, c .memory-of .ensures, memory-light 0 (omega arith), bl-left _ _ _ _ (sym (c .before .before .before .before .before .eval .ensures) ∙ c .before .before .before .v2 .given .1)))
+    (λ c.
+    let after-v2 = c .before .before .before in
+    let after-eval = after-v2 .before .before in
+    omega (arith, c .memory-of .ensures, memory-light 0 (omega arith), bl-left _ _ _ _ (sym (after-eval .eval .ensures) ∙ after-v2 .v2 .given .1)))
     (λ c κs. search needs)
     (λ c. λ g e. c .none .ensures ∙ bl-broken _ _ _ _ g e _ (sym (c .before .before .before .before .eval .ensures) ∙ c .before .before .v .given .1))
-    (λ c. λ g e. rw (c .before .before .bl .ensures, c .before .memory-of .ensures, c .mark-of .ensures) (bl-done _ _ _ _ g e _ (sym (c .before .before .before .before .before .before .eval .ensures) ∙ c .before .before .before .before .v2 .given .1))))
+    (λ c.
+    let after-bl = c .before .before in
+    let after-v2 = after-bl .before .before in
+    let after-eval = after-v2 .before .before in
+    λ g e. rw (after-bl .bl .ensures, c .before .memory-of .ensures, c .mark-of .ensures)
+    (bl-done _ _ _ _ g e _ (sym (after-eval .eval .ensures) ∙ after-v2 .v2 .given .1))))

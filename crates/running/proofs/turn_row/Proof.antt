@@ -13,14 +13,22 @@ use Rattle.running.proofs.turn_row.Statement.{statement}
 use Rattle.running.proofs.turn_row.Tie as tie
 
 -- the blocks asked for, whichever way the test went
-asked : (c : tie.Joined1) → c .if1 .asked ≡ asking (contents (typesOf (c .before .before .before .before .before .before .before .args .kind)) 0 (c .before .before .before .before .before .read-row .result .fields)) (c .before .before .before .before .before .before .before .args .asked .now)
+asked : (c : tie.Joined1)
+    → c .if1 .asked ≡ asking
+    (contents (typesOf (c .before .before .before .before .before .before .before .args .kind)) 0
+    (c .before .before .before .before .before .read-row .result .fields)) (c .before .before .before .before .before .before .before .args .asked .now)
 asked c = ⊎-elim (λ w. w .3 ∙ w .2 .ensures) (λ w. w .1 ∙ low-asks _ (w .0 .left) _ _) (c .if1 .came)
 
 returns-2 : tie.Need-returns-2
 returns-2 c =
-    let r = ran _ _ (c .before .before .before .before .before .before .before .before .before .before .pre .0) (c .before .before .before .before .before .before .before .before .before .before .pre .1) _ _ _ (c .before .before .before .before .before .before .before .before .read-row .ensures) (c .before .before .before .before .before .end2 .given .1) in (
-      rw (r .read, c .before .before .apply .ensures, c .before .memory-of .ensures, c .mark-of .ensures, r .one (bitIn (c .before .before .before .before .before .before .before .before .before .before .args .bits .now)), r .bare, add-zero),
-      rw (r .read) (asked (c .before .before .before)),
+    let after-apply = c .before .before in
+    let joined = after-apply .before in
+    let after-end2 = joined .before .before in
+    let after-read-row = after-end2 .before .before .before in
+    let start = after-read-row .before .before in
+    let r = ran _ _ (start .pre .0) (start .pre .1) _ _ _ (after-read-row .read-row .ensures) (after-end2 .end2 .given .1) in (
+      rw (r .read, after-apply .apply .ensures, c .before .memory-of .ensures, c .mark-of .ensures, r .one (bitIn (start .args .bits .now)), r .bare, add-zero),
+      rw (r .read) (asked joined),
     )
 
 pub turn-row-spec : {M : Type 1} → statement M
@@ -32,8 +40,17 @@ turn-row-spec =
     (λ c κs. search needs)
     (λ c. search needs)
     (λ c κs. search needs)
-    (λ c κs. (c .before .before .before .before .before .before .before .pre .0, ran _ _ (c .before .before .before .before .before .before .before .pre .0) (c .before .before .before .before .before .before .before .pre .1) _ _ _ (c .before .before .before .before .before .read-row .ensures) (c .before .before .end2 .given .1) .allow))
+    (λ c κs.
+    let after-end2 = c .before .before in
+    let after-read-row = after-end2 .before .before .before in
+    let start = after-read-row .before .before in
+    (start .pre .0, ran _ _ (start .pre .0) (start .pre .1) _ _ _ (after-read-row .read-row .ensures) (after-end2 .end2 .given .1) .allow))
     (λ c κs. search needs)
     (λ c κs. search needs)
-    (λ c. let h = lost _ _ (c .before .before .before .before .before .before .before .pre .0) (c .before .before .before .before .before .before .before .pre .1) _ _ _ (c .before .before .before .before .before .read-row .ensures) (c .before .before .end .given .1) in (c .none .ensures ∙ rw h, rw h))
+    (λ c.
+    let after-end = c .before .before in
+    let after-read-row = after-end .before .before .before in
+    let start = after-read-row .before .before in
+    let h = lost _ _ (start .pre .0) (start .pre .1) _ _ _ (after-read-row .read-row .ensures) (after-end .end .given .1) in
+    (c .none .ensures ∙ rw h, rw h))
     returns-2)

@@ -13,4 +13,8 @@ signed-spec =
     (λ c. search needs)
     (λ c. rw (plain (c .args .n) (omega arith)) (wide (c .args .n) 32768 (omega arith) (omega arith)))
     (λ c. rw (plain (c .args .n) (omega arith), toZ-ofZ (wide (c .args .n) 32768 (omega arith) (omega arith))) (narrow (c .args .n) 32768 (omega arith) (omega arith)))
-    (λ c. rw (plain (c .args .n) (omega arith), toZ-ofZ (wide (c .args .n) 32768 (omega arith) (omega arith)), toZ-ofZ (narrow (c .args .n) 32768 (omega arith) (omega arith)))))
+    (λ c. rw (
+      plain (c .args .n) (omega arith),
+      toZ-ofZ (wide (c .args .n) 32768 (omega arith) (omega arith)),
+      toZ-ofZ (narrow (c .args .n) 32768 (omega arith) (omega arith)),
+    )))

@@ -20,11 +20,19 @@ returns-2 c = rw (c .before .before .if1 .left, c .if2 .taken)
 
 returns-3 : tie.Need-returns-3
 unfolding dl
-returns-3 c = rw (c .before .before .before .before .before .before .if1 .left, c .before .before .before .before .if2 .left, sym (c .before .before .time-of .ensures), sym (c .before .ticks-in .ensures), le-leb _ _ (c .if3 .taken))
+returns-3 c =
+    let after-time-of = c .before .before in
+    let after-if2 = after-time-of .before .before in
+    let after-if1 = after-if2 .before .before in
+    rw (after-if1 .if1 .left, after-if2 .if2 .left, sym (after-time-of .time-of .ensures), sym (c .before .ticks-in .ensures), le-leb _ _ (c .if3 .taken))
 
 returns-4 : tie.Need-returns-4
 unfolding dl
-returns-4 c = rw (c .before .before .before .before .before .before .if1 .left, c .before .before .before .before .if2 .left, sym (c .before .before .time-of .ensures), sym (c .before .ticks-in .ensures), lt-leb _ _ (c .if3 .left))
+returns-4 c =
+    let after-time-of = c .before .before in
+    let after-if2 = after-time-of .before .before in
+    let after-if1 = after-if2 .before .before in
+    rw (after-if1 .if1 .left, after-if2 .if2 .left, sym (after-time-of .time-of .ensures), sym (c .before .ticks-in .ensures), lt-leb _ _ (c .if3 .left))
 
 pub dl-spec : {M : Type 1} → statement M
 dl-spec =
@@ -38,7 +46,8 @@ dl-spec =
     (λ c κs. search needs)
     returns-3
     (λ c.
-    let a = c .before .before .before .before .before .before .before .args in
-    let h = pick-case (λ n. n ≤ 32767) (a .i) {x = a .on} {y = a .off} (λ _. c .before .before .before .before .before .before .before .pre .0) (λ _. c .before .before .before .before .before .before .before .pre .1) in
+    let start = c .before .before .before .before .before .before .before in
+    let a = start .args in
+    let h = pick-case (λ n. n ≤ 32767) (a .i) {x = a .on} {y = a .off} (λ _. start .pre .0) (λ _. start .pre .1) in
     omega (arith, h, c .before .before .time-of .ensures, ticks-most (a .unit) (c .before .before .time-of .result)))
     returns-4)

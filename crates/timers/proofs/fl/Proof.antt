@@ -47,6 +47,7 @@ fl-spec =
     omega (arith, ticks-least (a .unit) (a .on), ticks-least (a .unit) (a .off)))
     (λ c.
     let a = c .before .before .before .before .before .before .args in
-    let h : 0 < c .before .before .before .before .ticks-in .result + c .before .ticks-in2 .result = omega (arith, ticks-least (a .unit) (a .on), ticks-least (a .unit) (a .off)) in
+    let h : 0 < c .before .before .before .before .ticks-in .result + c .before .ticks-in2 .result =
+    omega (arith, ticks-least (a .unit) (a .on), ticks-least (a .unit) (a .off)) in
     omega (arith, mod-lt (a .p .ticks + a .e) h, ticks-most (a .unit) (a .on), ticks-most (a .unit) (a .off)))
     returns-3)

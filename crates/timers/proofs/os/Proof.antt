@@ -18,11 +18,19 @@ returns-2 c = rw (c .before .before .before .if1 .left, not-true (c .before .bef
 
 returns-3 : tie.Need-returns-3
 unfolding os
-returns-3 c = rw (c .before .before .before .before .before .if1 .left, not-false (c .before .before .before .before .before .before .args .p .out) (c .before .before .before .if2 .left), sym (c .before .ticks-in .ensures), le-leb _ _ (c .if3 .taken))
+returns-3 c =
+    let after-if2 = c .before .before .before in
+    let after-if1 = after-if2 .before .before in
+    let start = after-if1 .before in
+    rw (after-if1 .if1 .left, not-false (start .args .p .out) (after-if2 .if2 .left), sym (c .before .ticks-in .ensures), le-leb _ _ (c .if3 .taken))
 
 returns-4 : tie.Need-returns-4
 unfolding os
-returns-4 c = rw (c .before .before .before .before .before .if1 .left, not-false (c .before .before .before .before .before .before .args .p .out) (c .before .before .before .if2 .left), sym (c .before .ticks-in .ensures), lt-leb _ _ (c .if3 .left))
+returns-4 c =
+    let after-if2 = c .before .before .before in
+    let after-if1 = after-if2 .before .before in
+    let start = after-if1 .before in
+    rw (after-if1 .if1 .left, not-false (start .args .p .out) (after-if2 .if2 .left), sym (c .before .ticks-in .ensures), lt-leb _ _ (c .if3 .left))
 
 pub os-spec : {M : Type 1} → statement M
 os-spec =

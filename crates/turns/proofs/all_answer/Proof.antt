@@ -30,5 +30,11 @@ all-answer-spec =
     (λ c. search needs)
     (λ c. search needs)
     (λ c. search needs)
-    (λ c. let l = c .before .before .before .loop in let g = l .inv .1 in (omega arith, ⊎-elim (λ w. w .3 ∙ unanswered _ _ _ (w .0 .taken) (w .2 .taken)) (⊎-elim (λ w. w .3 ∙ g ∙ answered _ _ _ (w .2 .left)) (λ w. w .1 ∙ g ∙ unasked _ _ _ (w .0 .left))) (c .if1 .came)))
+    (λ c.
+    let l = c .before .before .before .loop in
+    let g = l .inv .1 in (
+      omega arith,
+      ⊎-elim (λ w. w .3 ∙ unanswered _ _ _ (w .0 .taken) (w .2 .taken))
+          (⊎-elim (λ w. w .3 ∙ g ∙ answered _ _ _ (w .2 .left)) (λ w. w .1 ∙ g ∙ unasked _ _ _ (w .0 .left))) (c .if1 .came),
+    ))
     (λ c. let l = c .before .loop in let e : l .i ≡ c .before .before .args .n = omega arith in l .inv .1 ∙ rw e))

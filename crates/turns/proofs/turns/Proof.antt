@@ -25,7 +25,9 @@ abbrev μ-loop : tie.MeasureT-loop
 
 -- the word that is read is the word that is there
 word-kept : (a : Arrays) (i : ℕ) → SFits w16 (getD (a .words) (i + 8) (pos 0))
-    → record { pins = getD (a .pins) i 0; out = getD (a .bits) (i + 34) false; ticks = getD (a .ticks) i 0; word = toZ w16 (ofZ w16 (getD (a .words) (i + 8) (pos 0))) } ≡ placeAt a i
+    → record
+    { pins = getD (a .pins) i 0; out = getD (a .bits) (i + 34) false; ticks = getD (a .ticks) i 0; word = toZ w16 (ofZ w16 (getD (a .words) (i + 8) (pos 0))) }
+    ≡ placeAt a i
 word-kept a i f = rw (toZ-ofZ f)
 
 cast-count : tie.Need-cast-count Inv-loop μ-loop
@@ -68,7 +70,8 @@ returns : tie.Need-returns Inv-loop μ-loop
 returns c =
     let l = c .before .before .before .before .before .before .before .before .before .before .before .loop in
     let f : SFits w16 (getD (l .words) (l .i + 8) (pos 0)) = search needs in
-    stop _ _ _ _ _ _ (l .inv) (omega arith) _ (word-kept (arrays (l .bits) (l .words) (l .ticks) (l .pins)) (l .i) f) (c .before .before .turn .ensures .0) (c .enum-told .given .1)
+    stop _ _ _ _ _ _ (l .inv) (omega arith) _ (word-kept (arrays (l .bits) (l .words) (l .ticks) (l .pins)) (l .i) f)
+    (c .before .before .turn .ensures .0) (c .enum-told .given .1)
 
 enum-known-end : tie.Need-enum-known-end Inv-loop μ-loop
 enum-known-end c = search needs
@@ -104,14 +107,16 @@ add-steps : tie.Need-add-steps Inv-loop μ-loop
 add-steps c =
     let l = c .before .before .before .before .before .before .before .before .before .before .before .before .before .before .loop in
     let f : SFits w16 (getD (l .words) (l .i + 8) (pos 0)) = search needs in
-    let m = small _ _ _ _ _ _ (l .inv) (omega arith) _ (word-kept (arrays (l .bits) (l .words) (l .ticks) (l .pins)) (l .i) f) (c .before .before .before .before .before .turn .ensures .0) (c .before .before .before .end .given .1) in
+    let w = word-kept (arrays (l .bits) (l .words) (l .ticks) (l .pins)) (l .i) f in
+    let m = small _ _ _ _ _ _ (l .inv) (omega arith) _ w (c .before .before .before .before .before .turn .ensures .0) (c .before .before .before .end .given .1) in
     omega (arith, l .inv .few, m)
 
 add-memory : tie.Need-add-memory Inv-loop μ-loop
 add-memory c =
     let l = c .before .before .before .before .before .before .before .before .before .before .before .before .before .before .loop in
     let f : SFits w16 (getD (l .words) (l .i + 8) (pos 0)) = search needs in
-    let m = small _ _ _ _ _ _ (l .inv) (omega arith) _ (word-kept (arrays (l .bits) (l .words) (l .ticks) (l .pins)) (l .i) f) (c .before .before .before .before .before .turn .ensures .0) (c .before .before .before .end .given .1) in
+    let w = word-kept (arrays (l .bits) (l .words) (l .ticks) (l .pins)) (l .i) f in
+    let m = small _ _ _ _ _ _ (l .inv) (omega arith) _ w (c .before .before .before .before .before .turn .ensures .0) (c .before .before .before .end .given .1) in
     omega (arith, l .inv .light, m)
 
 add-i : tie.Need-add-i Inv-loop μ-loop
@@ -126,7 +131,8 @@ loop-again c =
     let f : SFits w16 (getD (l .words) (l .i + 8) (pos 0)) = search needs in
     let w : SFits w16 (c .before .before .before .before .before .turn .result .place .word) = search needs in
     rw (toZ-ofZ w)
-    (go-on _ _ _ _ _ _ (l .inv) (omega arith) _ (word-kept (arrays (l .bits) (l .words) (l .ticks) (l .pins)) (l .i) f) (c .before .before .before .before .before .turn .ensures .0) (omega arith)
+    (go-on _ _ _ _ _ _ (l .inv) (omega arith) _ (word-kept (arrays (l .bits) (l .words) (l .ticks) (l .pins)) (l .i) f)
+    (c .before .before .before .before .before .turn .ensures .0) (omega arith)
     (c .before .before .before .end .given .1) (c .before .before .before .before .before .turn .ensures .1))
 
 all-answer-requires : tie.Need-all-answer-requires Inv-loop μ-loop

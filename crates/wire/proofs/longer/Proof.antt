@@ -26,18 +26,43 @@ returns-4 c = rw (lt-ltb _ _ (c .before .before .before .if1 .left), le-ltb _ _ 
 
 returns-5 : tie.Need-returns-5
 unfolding groupsAt
-returns-5 c = rw (lt-ltb _ _ (c .before .before .before .before .before .before .if1 .left), le-ltb _ _ (c .before .before .before .before .if2 .left), lt-ltb _ _ (c .before .before .before .if4 .left), lt-ltb _ _ (c .before .if5 .taken), lt-ltb _ _ (c .if6 .taken))
+returns-5 c =
+    let after-if4 = c .before .before .before in
+    let after-if2 = after-if4 .before in
+    let after-if1 = after-if2 .before .before in
+    rw (
+      lt-ltb _ _ (after-if1 .if1 .left),
+      le-ltb _ _ (after-if2 .if2 .left),
+      lt-ltb _ _ (after-if4 .if4 .left),
+      lt-ltb _ _ (c .before .if5 .taken),
+      lt-ltb _ _ (c .if6 .taken),
+    )
 
 returns-6 : tie.Need-returns-6
 unfolding groupsAt
 returns-6 c =
-    let a = c .before .before .before .before .before .before .before .args in
+    let after-if4 = c .before .before .before in
+    let after-if2 = after-if4 .before in
+    let after-if1 = after-if2 .before .before in
+    let start = after-if1 .before in
+    let a = start .args in
     let n : a .at + 1 + 1 ≡ a .at + 2 = omega arith in
-    rw (lt-ltb _ _ (c .before .before .before .before .before .before .if1 .left), le-ltb _ _ (c .before .before .before .before .if2 .left), lt-ltb _ _ (c .before .before .before .if4 .left), lt-ltb _ _ (c .before .if5 .taken), le-ltb _ _ (c .if6 .left), n)
+    rw (
+      lt-ltb _ _ (after-if1 .if1 .left),
+      le-ltb _ _ (after-if2 .if2 .left),
+      lt-ltb _ _ (after-if4 .if4 .left),
+      lt-ltb _ _ (c .before .if5 .taken),
+      le-ltb _ _ (c .if6 .left),
+      n,
+    )
 
 returns-7 : tie.Need-returns-7
 unfolding groupsAt
-returns-7 c = rw (lt-ltb _ _ (c .before .before .before .before .before .if1 .left), le-ltb _ _ (c .before .before .before .if2 .left), lt-ltb _ _ (c .before .before .if4 .left), le-ltb _ _ (c .if5 .left))
+returns-7 c =
+    let after-if4 = c .before .before in
+    let after-if2 = after-if4 .before in
+    let after-if1 = after-if2 .before .before in
+    rw (lt-ltb _ _ (after-if1 .if1 .left), le-ltb _ _ (after-if2 .if2 .left), lt-ltb _ _ (after-if4 .if4 .left), le-ltb _ _ (c .if5 .left))
 
 pub longer-spec : {M : Type 1} → statement M
 longer-spec =

@@ -23,5 +23,19 @@ read-field-spec =
     (λ c. search needs)
     (λ c. search needs)
     (λ c. more-refused _ _ _ _ _ (c .enum-told .given .1))
-    (λ c. c .blank .ensures ∙ more-fault _ _ _ _ _ (c .before .before .before .before .before .before .before .end .given .1) (⊎-elim (λ w. w .1 ∙ rw (w .0 .taken) refl) (λ w. w .2 ∙ before-place _ _ (w .0 .left)) (c .before .before .before .before .before .if1 .came)) (typed-fault _ _ _ _ _ (sym (c .before .before .before .before .read-number .ensures) ∙ c .before .before .n .given .1)))
-    (λ c. more-got _ _ _ _ _ (c .before .before .before .before .before .before .before .end .given .1) (⊎-elim (λ w. w .1 ∙ rw (w .0 .taken) refl) (λ w. w .2 ∙ before-place _ _ (w .0 .left)) (c .before .before .before .before .before .if1 .came)) (typed-got _ _ _ _ _ (sym (c .before .before .before .before .read-number .ensures) ∙ c .before .before .n2 .given .1))))
+    (λ c.
+    let after-n = c .before .before in
+    let after-read-number = after-n .before .before in
+    let after-if1 = after-read-number .before in
+    let after-end = after-if1 .before .before in
+    c .blank .ensures ∙ more-fault _ _ _ _ _ (after-end .end .given .1)
+    (⊎-elim (λ w. w .1 ∙ rw (w .0 .taken) refl) (λ w. w .2 ∙ before-place _ _ (w .0 .left)) (after-if1 .if1 .came))
+    (typed-fault _ _ _ _ _ (sym (after-read-number .read-number .ensures) ∙ after-n .n .given .1)))
+    (λ c.
+    let after-n2 = c .before .before in
+    let after-read-number = after-n2 .before .before in
+    let after-if1 = after-read-number .before in
+    let after-end = after-if1 .before .before in
+    more-got _ _ _ _ _ (after-end .end .given .1)
+    (⊎-elim (λ w. w .1 ∙ rw (w .0 .taken) refl) (λ w. w .2 ∙ before-place _ _ (w .0 .left)) (after-if1 .if1 .came))
+    (typed-got _ _ _ _ _ (sym (after-read-number .read-number .ensures) ∙ after-n2 .n2 .given .1))))

@@ -18,4 +18,7 @@ alarms-spec =
     (λ c. search needs)
     (λ c κs. omega (arith, typed-below _ _ _ _ _ (typed-got _ _ _ _ _ (sym (c .before .before .before .read-number .ensures) ∙ c .before .c .given .1))))
     (λ c. c .unread .ensures ∙ uncounted _ _ _ _ (typed-fault _ _ _ _ _ (sym (c .before .before .before .read-number .ensures) ∙ c .before .enum-told .given .1)))
-    (λ c. c .references .ensures ∙ counted _ _ _ _ (typed-got _ _ _ _ _ (sym (c .before .before .before .before .read-number .ensures) ∙ c .before .before .c .given .1))))
+    (λ c.
+    let after-c = c .before .before in
+    let after-read-number = after-c .before .before in
+    c .references .ensures ∙ counted _ _ _ _ (typed-got _ _ _ _ _ (sym (after-read-number .read-number .ensures) ∙ after-c .c .given .1))))

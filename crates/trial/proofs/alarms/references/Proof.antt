@@ -26,14 +26,35 @@ references-spec =
     (λ c κs. search needs)
     (λ c. search needs)
     (λ c κs. search needs)
-    (λ c. c .unread .ensures ∙ walk-fault _ _ _ _ _ (c .before .before .before .before .before .loop .inv) (c .before .before .before .before .loop-test .taken) (typed-fault _ _ _ _ _ (sym (c .before .before .before .read-number .ensures) ∙ c .before .enum-told .given .1)))
+    (λ c.
+    let after-read-number = c .before .before .before in
+    let after-loop-test = after-read-number .before in
+    let after-loop = after-loop-test .before in
+    c .unread .ensures ∙ walk-fault _ _ _ _ _ (after-loop .loop .inv) (after-loop-test .loop-test .taken)
+    (typed-fault _ _ _ _ _ (sym (after-read-number .read-number .ensures) ∙ c .before .enum-told .given .1)))
     (λ c. search needs)
     (λ c κs. typed-below _ _ _ _ _ (typed-got _ _ _ _ _ (sym (c .before .before .before .read-number .ensures) ∙ c .before .r .given .1)))
-    (λ c. let l = c .before .before .before .before .before .before .loop in let h = light (bitIn (c .before .before .before .before .before .before .before .before .args .bits .now) (bitRef (c .before .before .r .given .0 .0))) (l .word) (l .weight) (l .inv .low) in omega (arith, h, c .weigh .ensures, walk-fits _ _ _ _ _ (c .before .before .before .before .before .before .loop .inv) (c .before .before .before .before .before .before .before .before .pre)))
-    (λ c. omega (arith, walk-fits _ _ _ _ _ (c .before .before .before .before .before .before .loop .inv) (c .before .before .before .before .before .before .before .before .pre)))
+    (λ c.
+    let after-r = c .before .before in
+    let after-loop = after-r .before .before .before .before in
+    let start = after-loop .before .before in
+    let l = after-loop .loop in
+    let h = light (bitIn (start .args .bits .now) (bitRef (after-r .r .given .0 .0))) (l .word) (l .weight) (l .inv .low) in
+    omega (arith, h, c .weigh .ensures, walk-fits _ _ _ _ _ (after-loop .loop .inv) (start .pre)))
+    (λ c.
+    let after-loop = c .before .before .before .before .before .before in
+    let start = after-loop .before .before in
+    omega (arith, walk-fits _ _ _ _ _ (after-loop .loop .inv) (start .pre)))
     (λ c. search needs)
     (λ c. search needs)
-    (λ c. rw (c .weigh .ensures) (walk-on _ _ _ _ _ (c .before .before .before .before .before .before .loop .inv) (c .before .before .before .before .before .loop-test .taken) (typed-got _ _ _ _ _ (sym (c .before .before .before .before .read-number .ensures) ∙ c .before .before .r .given .1))))
+    (λ c.
+    let after-r = c .before .before in
+    let after-read-number = after-r .before .before in
+    let after-loop-test = after-read-number .before in
+    let after-loop = after-loop-test .before in
+    rw (c .weigh .ensures)
+    (walk-on _ _ _ _ _ (after-loop .loop .inv) (after-loop-test .loop-test .taken)
+    (typed-got _ _ _ _ _ (sym (after-read-number .read-number .ensures) ∙ after-r .r .given .1))))
     (λ c κs. search needs)
     (λ c. c .unread2 .ensures ∙ walk-over _ _ _ _ _ (c .before .before .before .loop .inv) (omega arith) (c .before .if1 .taken))
     (λ c. omega (arith, walk-fits _ _ _ _ _ (c .before .before .loop .inv) (c .before .before .before .before .pre)))
