@@ -18,10 +18,11 @@ use Rattle.recording.specs.Recording.{programBytes, lengthIn}
 use Rattle.recording.specs.Answers.{headIn}
 use Rattle.recording.specs.declared.Head.the-variants.{Program, Bad}
 use Rattle.recording.proofs.Heads.{Fit, length-fits, head-got, head-fits}
-use Rattle.playback.specs.Playback.{lineBytes, badProgram, refusedLine, Opening, openedBy, openedIn, opening}
+use Rattle.lines.specs.Lines.{lineBytes, badProgram, refusedLine}
+use Rattle.playback.specs.Playback.{Opening, openedBy, openedIn, opening}
 use Rattle.playback.specs.Answers.{Opens}
 use Rattle.playback.specs.declared.Opened.{Opened}
-use Rattle.playback.proofs.Lines.{refused-short}
+use Rattle.lines.proofs.Lines.{refused-short}
 
 -- a head that is not good, whatever its fault
 not-opened : (s : List ℕ) (p : Read ℕ) → headIn p ≡ Bad → openedIn s p ≡ record { text = badProgram; program = []; next = 0; more = false }

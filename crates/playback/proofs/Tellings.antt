@@ -19,10 +19,11 @@ use Rattle.recording.specs.Answers.{recordedIn}
 use Rattle.recording.specs.declared.Recorded.{Recorded}
 use Rattle.recording.proofs.Ends.{Ends, scan-ends}
 use Rattle.recording.proofs.Scans.{scan-got}
-use Rattle.playback.specs.Playback.{lineBytes, Told, ended, badScan, toldBy, toldIn, toldAt}
+use Rattle.lines.specs.Lines.{lineBytes, badScan}
+use Rattle.playback.specs.Playback.{Told, ended, toldBy, toldIn, toldAt}
 use Rattle.playback.specs.Answers.{Wrote}
 use Rattle.playback.specs.declared.Stepped.{Stepped}
-use Rattle.playback.proofs.Lines.{line-short, refused-short}
+use Rattle.lines.proofs.Lines.{line-short, refused-short}
 
 module _ (program : List ℕ) (st : State) (s : List ℕ) (at : ℕ) where
   pub told-end : length s ≤ at → toldAt program st s at ≡ ended [] st at

@@ -1,12 +1,12 @@
 -- Document 01, "The listing program": what scanlist prints, bytes for bytes.
 use mathlib.Core.Bool.{Bool, true, false}
-use mathlib.Core.List.{List, [], _∷_, _++_}
+use mathlib.Core.List.{List, [], _++_}
 use Prim.Native.Nat.{ℕ, zero, suc, _+_}
 use lib.ListN.{length, take, drop}
 use lib.Dec.{ltb, eqb}
 use Rattle.terms.specs.Choice.{pick, when}
 use Rattle.wire.specs.Reading.{Read, got, fault}
-use Rattle.text.specs.Text.{decimal, space, newline}
+use Rattle.lines.specs.Lines.{lineWith, refusedLine, badScan, badProgram}
 use Rattle.program.specs.Acceptance.{accepted}
 use Rattle.image.specs.declared.State.{State}
 use Rattle.image.specs.State.{freshState}
@@ -15,31 +15,9 @@ use Rattle.calls.specs.declared.Scanned.{Scanned}
 use Rattle.calls.specs.Calls.{scanOf}
 use Rattle.recording.specs.Recording.{lengthIn, scanAt}
 
--- the longest line: four numbers of 20 digits, each ended by a byte
-abbrev pub lineBytes : ℕ
-lineBytes = 84
-
--- "Per scan it prints time, steps, held, missed, in decimal with single spaces."
-unfoldable pub lineWith : ℕ → ℕ → ℕ → ℕ → List ℕ
-lineWith time steps held missed =
-    decimal time ++ (space ∷ (decimal steps ++ (space ∷ (decimal held ++ (space ∷ (decimal missed ++ (newline ∷ [])))))))
-
+-- "Per scan it prints time, steps, held, missed"
 abbrev pub lineOf : Scanned → List ℕ
 lineOf a = lineWith (a .state .time) (a .steps) (a .state .journal .held) (a .state .journal .missed)
-
--- "refused N at P"
-unfoldable pub refusedLine : ℕ → ℕ → List ℕ
-refusedLine n at =
-    -- r e f u s e d
-    114 ∷ 101 ∷ 102 ∷ 117 ∷ 115 ∷ 101 ∷ 100 ∷ space ∷ (decimal n ++ (space ∷ 97 ∷ 116 ∷ space ∷ (decimal at ++ (newline ∷ []))))
-
--- "bad scan"
-abbrev pub badScan : List ℕ
-badScan = 98 ∷ 97 ∷ 100 ∷ space ∷ 115 ∷ 99 ∷ 97 ∷ 110 ∷ newline ∷ []
-
--- "bad program"
-abbrev pub badProgram : List ℕ
-badProgram = 98 ∷ 97 ∷ 100 ∷ space ∷ 112 ∷ 114 ∷ 111 ∷ 103 ∷ 114 ∷ 97 ∷ 109 ∷ newline ∷ []
 
 -- What the scan at a place of a recording comes to: what is printed, the state and the place after it, and whether the run goes on.
 pub record Told : Type 0 where

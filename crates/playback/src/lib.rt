@@ -3,35 +3,12 @@ use calls::Scanned;
 use image::State;
 use recording::Head;
 use text::put;
-use text::put_number;
 ghost use Prim.Native.Nat.{_+_, _≤_};
 ghost use lib.ListN.{length};
-ghost use Rattle.text.specs.Text.{Put};
+ghost use Rattle.lines.specs.Lines.{lineBytes};
 ghost use Rattle.recording.specs.Recording.{programBytes};
-ghost use Rattle.playback.specs.Playback.{lineBytes, lineWith, refusedLine, toldBy, toldAt, opening};
+ghost use Rattle.playback.specs.Playback.{toldBy, toldAt, opening};
 ghost use Rattle.playback.specs.Answers.{Wrote, Opens};
-
-// Puts the line of a scan.
-fn write_line(out: &mut [u8], at: usize, time: u64, steps: u32, held: usize, missed: u64) -> usize
-    requires { ⌜ at + lineBytes ≤ length (now out) ⌝ }
-    ensures { λ r. ⌜ Put (lineWith time steps held missed) (now (out .entry)) at (now (out .exit)) r ⌝ }
-{
-    let a = put_number(out, at, time, b' ');
-    let b = put_number(out, a, steps as u64, b' ');
-    let c = put_number(out, b, held as u64, b' ');
-    put_number(out, c, missed, b'\n')
-}
-
-// Puts the line of a refusal.
-fn write_refused(out: &mut [u8], at: usize, n: u8, place: usize) -> usize
-    requires { ⌜ at + lineBytes ≤ length (now out) ⌝ }
-    ensures { λ r. ⌜ Put (refusedLine n place) (now (out .entry)) at (now (out .exit)) r ⌝ }
-{
-    let a = put(out, at, b"refused ");
-    let b = put_number(out, a, n as u64, b' ');
-    let c = put(out, b, b"at ");
-    put_number(out, c, place as u64, b'\n')
-}
 
 // The state and the place after a scan of a recording, the place after what was put, and whether the run goes on.
 pub struct Stepped {
@@ -48,7 +25,7 @@ fn tell(a: Scanned, at: usize, next: usize, out: &mut [u8], to: usize) -> Steppe
 {
     let state = a.state;
     if a.refusal != 0 {
-        let end = write_refused(out, to, a.refusal, a.place);
+        let end = lines::write_refused(out, to, a.refusal, a.place);
         return Stepped {
             state,
             next: at,
@@ -57,7 +34,7 @@ fn tell(a: Scanned, at: usize, next: usize, out: &mut [u8], to: usize) -> Steppe
         };
     }
     let j = state.journal;
-    let end = write_line(out, to, state.time, a.steps, j.held, j.missed);
+    let end = lines::write_line(out, to, state.time, a.steps, j.held, j.missed);
     Stepped {
         state,
         next,
@@ -124,7 +101,7 @@ pub fn open_recording(s: &[u8], program: &mut [u8], out: &mut [u8]) -> Opened
             put(program, 0, &s[at..next]);
             let a = hall::accept(&s[at..next]);
             if a.refusal != 0 {
-                let to = write_refused(out, 0, a.refusal, a.place);
+                let to = lines::write_refused(out, 0, a.refusal, a.place);
                 return Opened {
                     size,
                     next,

@@ -81,6 +81,8 @@ use Rattle.lanwezik.proofs.lanwezik_scan_in.Reads as lanwezik-scan-in
 use Rattle.lanwezik.proofs.lanwezik_take_in.Reads as lanwezik-take-in
 use Rattle.text.proofs.put.Reads as text-put
 use Rattle.text.proofs.put_number.Reads as text-put-number
+use Rattle.lines.proofs.write_line.Reads as lines-write-line
+use Rattle.lines.proofs.write_refused.Reads as lines-write-refused
 use Rattle.recording.proofs.read_scan.Reads as recording-read-scan
 use Rattle.recording.proofs.read_head.Reads as recording-read-head
 use Rattle.playback.proofs.step.Reads as playback-step
@@ -184,6 +186,8 @@ pub record Determinacy : Type 0 where
   pub lanwezik-take-in : DeterminedWith (λ κ u. imageFrom u) lanwezik-take-in.Learnt
   pub text-put : DeterminedWith (λ κ u. now (u .0)) text-put.Learnt
   pub text-put-number : DeterminedWith (λ κ u. now (u .0)) text-put-number.Learnt
+  pub lines-write-line : DeterminedWith (λ κ u. now (u .0)) lines-write-line.Learnt
+  pub lines-write-refused : DeterminedWith (λ κ u. now (u .0)) lines-write-refused.Learnt
   pub recording-read-scan : Determined recording-read-scan.Learnt
   pub recording-read-head : Determined recording-read-head.Learnt
   pub playback-step : DeterminedWith (λ κ u. now (u .1 .1 .1 .1 .0)) playback-step.Learnt

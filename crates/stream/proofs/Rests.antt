@@ -15,7 +15,8 @@ use Rattle.recording.specs.Recording.{scanAt, shifted}
 use Rattle.recording.proofs.Tests.{inside-moved}
 use Rattle.recording.proofs.Cuts.{scan-cut}
 use Rattle.recording.proofs.Moves.{scan-moved}
-use Rattle.playback.specs.Playback.{Told, ended, lineOf, refusedLine, toldBy, toldIn, toldAt, linesAt}
+use Rattle.lines.specs.Lines.{refusedLine}
+use Rattle.playback.specs.Playback.{Told, ended, lineOf, toldBy, toldIn, toldAt, linesAt}
 use Rattle.stream.specs.Windows.{Windows}
 use Rattle.stream.proofs.Parts.{scan-seen, opening-cut}
 

@@ -7,7 +7,8 @@ use lib.ListN.{length, take}
 use lib.Seq.{length-take-le}
 use Rattle.image.specs.declared.State.{State}
 use Rattle.playback.specs.declared.Stepped.{Stepped}
-use Rattle.playback.specs.Playback.{lineBytes, toldAt}
+use Rattle.lines.specs.Lines.{lineBytes}
+use Rattle.playback.specs.Playback.{toldAt}
 use Rattle.playback.specs.Answers.{Wrote}
 use Rattle.playback.proofs.Tellings.{step-small}
 use Rattle.stream.specs.declared.Span.{Span}

@@ -5,7 +5,7 @@ ghost use mathlib.Core.Path.{_≡_};
 ghost use Prim.Native.Nat.{_+_, _-_, _≤_};
 ghost use lib.ListN.{length, take, drop};
 ghost use Rattle.recording.specs.Recording.{programBytes, scanBytes};
-ghost use Rattle.playback.specs.Playback.{lineBytes};
+ghost use Rattle.lines.specs.Lines.{lineBytes};
 ghost use Rattle.stream.specs.Spans.{Within, Ready};
 ghost use Rattle.stream.specs.Windows.{Windows};
 

@@ -3,7 +3,7 @@ use Prim.Native.Nat.{ℕ, _≤_}
 use native.Mathlib.Omega.{arith}
 use lib.ListN.{length, length-append}
 use Rattle.text.proofs.Texts.{digits-short}
-use Rattle.playback.specs.Playback.{lineBytes, lineWith, refusedLine}
+use Rattle.lines.specs.Lines.{lineBytes, lineWith, refusedLine}
 
 pub line-short : (time steps held missed : ℕ) → length (lineWith time steps held missed) ≤ lineBytes
 unfolding lineWith

@@ -1,11 +1,11 @@
--- `playback::write_line` meets its contract: four numbers, each ended by its byte, one after the other.
+-- `lines::write_line` meets its contract: four numbers, each ended by its byte, one after the other.
 use native.Mathlib.Omega.{arith}
 use Rattle.text.specs.Text.{decimal, space}
 use Rattle.text.proofs.Texts.{put-ended, put-small}
-use Rattle.playback.specs.Playback.{lineWith}
+use Rattle.lines.specs.Lines.{lineWith}
 use borrow.Author.Needs.{needs}
-use Rattle.playback.proofs.write_line.Statement.{statement}
-use Rattle.playback.proofs.write_line.Tie as tie
+use Rattle.lines.proofs.write_line.Statement.{statement}
+use Rattle.lines.proofs.write_line.Tie as tie
 
 put-number-requires-3 : tie.Need-put-number-requires-3
 put-number-requires-3 c κs =

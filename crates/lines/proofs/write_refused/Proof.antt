@@ -1,11 +1,11 @@
--- `playback::write_refused` meets its contract: words and numbers, one after the other.
+-- `lines::write_refused` meets its contract: words and numbers, one after the other.
 use native.Mathlib.Omega.{arith}
 use Rattle.text.specs.Text.{decimal, space}
 use Rattle.text.proofs.Texts.{put-then, put-ended, put-length, put-small}
-use Rattle.playback.specs.Playback.{refusedLine}
+use Rattle.lines.specs.Lines.{refusedLine}
 use borrow.Author.Needs.{needs}
-use Rattle.playback.proofs.write_refused.Statement.{statement}
-use Rattle.playback.proofs.write_refused.Tie as tie
+use Rattle.lines.proofs.write_refused.Statement.{statement}
+use Rattle.lines.proofs.write_refused.Tie as tie
 
 put-requires-2 : tie.Need-put-requires-2
 put-requires-2 c κs =
