@@ -44,8 +44,8 @@ use Rattle.logbook.proofs.close.Reads as logbook-close
 use Rattle.logbook.proofs.hand_out.Reads as logbook-hand-out
 use Rattle.copies.proofs.copy_ticks.Reads as copies-copy-ticks
 use Rattle.copies.proofs.copy_pins.Reads as copies-copy-pins
-use Rattle.copies.proofs.load_bits.Reads as copies-load-bits
-use Rattle.copies.proofs.load_words.Reads as copies-load-words
+use Rattle.loading.proofs.load_bits.Reads as loading-load-bits
+use Rattle.loading.proofs.load_words.Reads as loading-load-words
 use Rattle.copies.proofs.store_words.Reads as copies-store-words
 use Rattle.copies.proofs.store_outputs.Reads as copies-store-outputs
 use Rattle.numbers.proofs.read_number.Reads as numbers-read-number
@@ -149,8 +149,8 @@ pub record Determinacy : Type 0 where
   pub logbook-hand-out : DeterminedWith (λ κ u. logFrom u) logbook-hand-out.Learnt
   pub copies-copy-ticks : DeterminedWith (λ κ u. now (u .1 .1 .0)) copies-copy-ticks.Learnt
   pub copies-copy-pins : DeterminedWith (λ κ u. now (u .1 .1 .0)) copies-copy-pins.Learnt
-  pub copies-load-bits : DeterminedWith (λ κ u. now (u .1 .1 .1 .0)) copies-load-bits.Learnt
-  pub copies-load-words : DeterminedWith (λ κ u. now (u .1 .1 .1 .0)) copies-load-words.Learnt
+  pub loading-load-bits : DeterminedWith (λ κ u. now (u .1 .1 .1 .0)) loading-load-bits.Learnt
+  pub loading-load-words : DeterminedWith (λ κ u. now (u .1 .1 .1 .0)) loading-load-words.Learnt
   pub copies-store-words : DeterminedWith (λ κ u. now (u .1 .1 .0)) copies-store-words.Learnt
   pub copies-store-outputs : DeterminedWith (λ κ u. now (u .1 .1 .0)) copies-store-outputs.Learnt
   pub numbers-read-number : Determined numbers-read-number.Learnt

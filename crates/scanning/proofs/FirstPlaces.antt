@@ -14,9 +14,10 @@ use Rattle.image.proofs.Listed.{listed-long}
 use Rattle.image.proofs.Columns.{pins-of-places, ticks-of-places, words-of-places, outputs-of-places}
 use Rattle.image.proofs.Images.{outputs-by-bits}
 use Rattle.scanning.specs.Scan.{Inputs}
-use Rattle.copies.specs.Copies.{inputBits, over, firstOf}
+use Rattle.copies.specs.Copies.{over, firstOf}
+use Rattle.loading.specs.Inputs.{inputBits}
 use Rattle.scanning.specs.Loading.{outOf, loaded, loadedFirst, storedFrom, storedIn}
-use Rattle.copies.proofs.Inputs.{inputs-length}
+use Rattle.loading.proofs.Inputs.{inputs-length}
 
 -- a function of the elements of a list, and the front and the rest of it
 take-map : {A B : Type 0} (f : A → B) (n : ℕ) (l : List A) → take n (map f l) ≡ map f (take n l)

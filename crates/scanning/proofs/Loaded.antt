@@ -20,10 +20,10 @@ use Rattle.image.specs.Image.{pinsOf, ticksOf, wordOfPlace}
 use Rattle.turns.specs.Arrays.{placeAt, storeAt, turnsTo, turnSteps, blocksWhile}
 use Rattle.turns.proofs.Blocks.{WasRead, was-read, while-read}
 use Rattle.scanning.specs.Scan.{Inputs, placeOf, readBit, readWord, scanTo, stepsTo, alarmWord}
-use Rattle.copies.specs.Copies.{inputBits}
+use Rattle.loading.specs.Inputs.{inputBits}
 use Rattle.scanning.specs.Loading.{outOf, loaded}
 use Rattle.copies.proofs.Splicing.{set-behind}
-use Rattle.copies.proofs.Inputs.{inputs-length}
+use Rattle.loading.proofs.Inputs.{inputs-length}
 use Rattle.scanning.proofs.Values.{at-output, bit-values, at-word, word-values}
 
 -- the alarm word of references that fit

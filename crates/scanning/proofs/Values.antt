@@ -18,7 +18,7 @@ use Rattle.rules.specs.Rules.{wordIn}
 use Rattle.image.specs.Image.{listed, wordOfPlace}
 use Rattle.image.proofs.Listed.{listed-long, listed-at}
 use Rattle.scanning.specs.Scan.{Inputs, inputBit, placeOf, readBit, readWord}
-use Rattle.copies.specs.Copies.{inputBits}
+use Rattle.loading.specs.Inputs.{inputBits}
 use Rattle.scanning.specs.Loading.{outOf, loaded}
 
 module _ (x : Inputs) (ps : List Place) where

@@ -13,7 +13,8 @@ use Rattle.turns.specs.Arrays.{Arrays, arrays, turnedWhile}
 use Rattle.trial.specs.Trial.{trialOf}
 use Rattle.trial.specs.declared.Trial.{Trial}
 use Rattle.terms.specs.Choice.{pick}
-use Rattle.copies.specs.Copies.{inputBits, over, firstOf}
+use Rattle.copies.specs.Copies.{over, firstOf}
+use Rattle.loading.specs.Inputs.{inputBits}
 use Rattle.scanning.specs.Scan.{Inputs}
 
 abbrev pub outOf : Place → Bool

@@ -31,8 +31,8 @@ fn run_counted(
     let mut w = [0i16; 208];
     let mut t = [0u32; 200];
     let mut q = [0u8; 200];
-    copies::load_bits(n, bits, outputs, &mut v);
-    copies::load_words(n, analogs, words, &mut w);
+    loading::load_bits(n, bits, outputs, &mut v);
+    loading::load_words(n, analogs, words, &mut w);
     copies::copy_ticks(n, ticks, &mut t);
     copies::copy_pins(n, pins, &mut q);
     let r = trial::try_program(program, start, n, elapsed, &mut v, &mut w, &mut t, &mut q);

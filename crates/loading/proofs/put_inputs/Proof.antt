@@ -1,7 +1,8 @@
--- `copies::put_inputs` meets its contract: behind off and on, each turn makes the new front longer by one input bit.
-use Rattle.copies.specs.Copies.{inputBits, over}
+-- `loading::put_inputs` meets its contract: behind off and on, each turn makes the new front longer by one input bit.
+use Rattle.copies.specs.Copies.{over}
+use Rattle.loading.specs.Inputs.{inputBits}
 use Rattle.copies.proofs.Splicing.{spliced}
-use Rattle.copies.proofs.Inputs.{inputs-length, input-at, off-and-on}
+use Rattle.loading.proofs.Inputs.{inputs-length, input-at, off-and-on}
 use lib.ListN.{length, set, length-set}
 use lib.Seq.{take-all, drop-set-lt}
 use Prim.Native.Nat.{_+_, _-_, _≤_}
@@ -9,8 +10,8 @@ use mathlib.Core.Bool.{true, false}
 use mathlib.Core.Path.{_≡_, sym, _∙_}
 use native.Mathlib.Omega.{arith}
 use borrow.Author.Needs.{needs}
-use Rattle.copies.proofs.put_inputs.Statement.{statement}
-use Rattle.copies.proofs.put_inputs.Tie as tie
+use Rattle.loading.proofs.put_inputs.Statement.{statement}
+use Rattle.loading.proofs.put_inputs.Tie as tie
 
 abbrev Inv-loop : tie.InvT-loop
 Inv-loop bits to₀ i₀ to i = (i ≤ 32) × ((to ≡ over (i + 2) (inputBits bits) to₀) × ((length to ≡ 234) × (length to₀ ≡ 234)))

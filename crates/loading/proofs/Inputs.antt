@@ -8,7 +8,8 @@ use native.Mathlib.Omega.{arith}
 use lib.ListN.{length, getD, set}
 use Rattle.terms.specs.Bits.{bitOf}
 use Rattle.image.proofs.Listed.{listed-long, listed-at}
-use Rattle.copies.specs.Copies.{inputBits, over}
+use Rattle.copies.specs.Copies.{over}
+use Rattle.loading.specs.Inputs.{inputBits}
 
 pub inputs-length : (bits : ℕ) → length (inputBits bits) ≡ 34
 unfolding inputBits

@@ -1,6 +1,6 @@
--- `copies::load_words` meets its contract: behind the analog words, each turn makes the new front longer by one word.
+-- `loading::load_words` meets its contract: behind the analog words, each turn makes the new front longer by one word.
 use Rattle.copies.specs.Copies.{over}
 use Rattle.copies.proofs.Splicing.{spliced-behind, front-of, rest-of}
 use mir.Facts.{toZ-ofZ}
 use mir.Val.{SFits}
 use mir.Syntax.{w16}
@@ -12,8 +12,8 @@ use mathlib.Core.List.{_++_}
 use mathlib.Core.Path.{_≡_, sym, _∙_}
 use native.Mathlib.Omega.{arith}
 use borrow.Author.Needs.{needs}
-use Rattle.copies.proofs.load_words.Statement.{statement}
-use Rattle.copies.proofs.load_words.Tie as tie
+use Rattle.loading.proofs.load_words.Statement.{statement}
+use Rattle.loading.proofs.load_words.Tie as tie
 
 abbrev Inv-loop : tie.InvT-loop
 Inv-loop n words to₀ o count i₀ to i =

@@ -1,8 +1,9 @@
--- `copies::load_bits` meets its contract: behind the inputs, each turn makes the new front longer by one output.
+-- `loading::load_bits` meets its contract: behind the inputs, each turn makes the new front longer by one output.
 use Rattle.image.specs.Image.{isOn}
-use Rattle.copies.specs.Copies.{inputBits, over}
+use Rattle.copies.specs.Copies.{over}
+use Rattle.loading.specs.Inputs.{inputBits}
 use Rattle.copies.proofs.Splicing.{spliced-behind, front-of, rest-of}
-use Rattle.copies.proofs.Inputs.{inputs-length}
+use Rattle.loading.proofs.Inputs.{inputs-length}
 use lib.ListN.{length, take, drop, take-append-drop, length-set, length-map, length-drop, List·getD-map}
 use lib.Seq.{length-take-le}
 use Prim.Native.Nat.{_-_, _≤_}
@@ -11,8 +12,8 @@ use mathlib.Core.List.{_++_, map}
 use mathlib.Core.Path.{_≡_, sym, _∙_}
 use native.Mathlib.Omega.{arith}
 use borrow.Author.Needs.{needs}
-use Rattle.copies.proofs.load_bits.Statement.{statement}
-use Rattle.copies.proofs.load_bits.Tie as tie
+use Rattle.loading.proofs.load_bits.Statement.{statement}
+use Rattle.loading.proofs.load_bits.Tie as tie
 
 abbrev Inv-loop : tie.InvT-loop
 Inv-loop n bits outputs to₀ o count i₀ to i =

@@ -1,6 +1,6 @@
--- `copies::put_analogs` meets its contract: each turn makes the new front longer by one analog word.
+-- `loading::put_analogs` meets its contract: each turn makes the new front longer by one analog word.
 use Rattle.copies.specs.Copies.{over}
 use Rattle.copies.proofs.Splicing.{spliced}
 use mir.Facts.{toZ-ofZ}
 use mir.Val.{SFits}
 use mir.Syntax.{w16}
@@ -11,8 +11,8 @@ use Prim.Native.Nat.{_-_, _≤_}
 use mathlib.Core.Path.{_≡_, refl}
 use native.Mathlib.Omega.{arith}
 use borrow.Author.Needs.{needs}
-use Rattle.copies.proofs.put_analogs.Statement.{statement}
-use Rattle.copies.proofs.put_analogs.Tie as tie
+use Rattle.loading.proofs.put_analogs.Statement.{statement}
+use Rattle.loading.proofs.put_analogs.Tie as tie
 
 abbrev Inv-loop : tie.InvT-loop
 Inv-loop to₀ analogs i₀ to i = (i ≤ 8) × ((to ≡ over i analogs to₀) × ((length to ≡ 208) × (length to₀ ≡ 208)))
