@@ -12,18 +12,19 @@ fn all_answer(n: u32, asked: &[u8; 200], own: &[u8; 200]) -> bool
     requires { ⌜ n ≤ 200 ⌝ }
     ensures { λ r. ⌜ r ≡ allAnswer n (now (asked .entry)) (now (own .entry)) ⌝ }
 {
-    let mut good = true;
+    // counted, and both looked at whatever they are, so that the compiler looks at many at once
+    let mut silent: u32 = 0;
     let count = n as usize;
     let mut i: usize = 0;
     while i < count {
-        if asked[i] != 0 {
-            if own[i] != 2 {
-                good = false;
-            }
+        let asks = (asked[i] != 0) as u8;
+        let wordless = (own[i] != 2) as u8;
+        if asks + wordless == 2 {
+            silent += 1;
         }
         i += 1;
     }
-    good
+    silent == 0
 }
 
 // Whether n blocks were read and pass their trial, their steps, and the place after them.
