@@ -13,12 +13,15 @@ use Rattle.block.specs.declared.Row.{Row}
 use Rattle.block.specs.declared.Brief.{Brief}
 use Rattle.block.specs.declared.Brief.the-variants.{Got as BriefGot, Fault as BriefFault}
 
-abbrev pub blankRow : ℕ → ℕ → Row
-blankRow n at = record { fields = replicate 5 0; nodes = 0; end = EndFault n at }
+-- a row without fields, of which nothing is read yet or which is refused
+abbrev pub bareRow : End → Row
+bareRow end = record { fields = replicate 5 0; nodes = 0; end = end }
 
--- a row of which nothing is read yet
+abbrev pub blankRow : ℕ → ℕ → Row
+blankRow n at = bareRow (EndFault n at)
+
 abbrev pub emptyRow : ℕ → Row
-emptyRow at = record { fields = replicate 5 0; nodes = 0; end = Next at }
+emptyRow at = bareRow (Next at)
 
 -- a row with one more field, the number at place i that was read for it
 abbrev pub withField : ℕ → Row → Read ℕ → Row

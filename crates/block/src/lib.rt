@@ -15,7 +15,7 @@ ghost use Prim.Native.Nat.{_<_};
 ghost use Rattle.numbers.specs.Types.{numberTypes, kindCount};
 ghost use Rattle.kinds.specs.Kinds.{typesOf};
 ghost use Rattle.block.specs.Reading.{fieldsAt, blockAt};
-ghost use Rattle.block.specs.Answers.{blankRow, emptyRow, fieldMore, rowOf, briefOf};
+ghost use Rattle.block.specs.Answers.{bareRow, fieldMore, rowOf, briefOf};
 
 // The place after what was read, or a refusal and its place.
 pub enum End {
@@ -30,25 +30,14 @@ pub struct Row {
     pub end: End,
 }
 
-// A row that is refused.
-fn blank(no: u8, at: usize) -> Row
-    ensures { λ r. ⌜ r ≡ blankRow no at ⌝ }
+// A row without fields: nothing is read yet, or it is refused.
+fn bare(end: End) -> Row
+    ensures { λ r. ⌜ r ≡ bareRow end ⌝ }
 {
     Row {
         fields: [0u32; 5],
         nodes: 0,
-        end: End::Fault(no, at),
-    }
-}
-
-// A row of which nothing is read yet.
-fn empty(at: usize) -> Row
-    ensures { λ r. ⌜ r ≡ emptyRow at ⌝ }
-{
-    Row {
-        fields: [0u32; 5],
-        nodes: 0,
-        end: End::Next(at),
+        end,
     }
 }
 
@@ -65,7 +54,7 @@ impl Row {
                 let before = if i == 0 { 0 } else { self.fields[i - 1] };
                 let n = numbers::read_number(s, at, ty, before, marks);
                 match n {
-                    Number::Fault(no, place) => blank(no, place),
+                    Number::Fault(no, place) => bare(End::Fault(no, place)),
                     Number::Got(v, next) => {
                         let mut fields = self.fields;
                         fields[i] = v;
@@ -87,7 +76,7 @@ fn read_expression(s: &[u8], at: usize, marks: &[u8; 200]) -> Row
 {
     let e = nodes::pass(s, at, nodes::MOST_DEEP, nodes::MOST_NODES, marks);
     match e {
-        Passed::Fault { no, at: place } => blank(no, place),
+        Passed::Fault { no, at: place } => bare(End::Fault(no, place)),
         Passed::Good { next, left } => Row {
             fields: [0u32; 5],
             nodes: (nodes::MOST_NODES - left) as u32,
@@ -104,61 +93,49 @@ pub fn read_row(s: &[u8], start: usize, kind: u8, marks: &[u8; 200]) -> Row
 {
     match kind {
         0 => read_expression(s, start, marks),
-        1 => empty(start)
-            .read_field(0, PIN, s, marks)
+        1 => bare(End::Next(start)).read_field(0, PIN, s, marks)
             .read_field(1, PIN, s, marks)
             .read_field(2, EITHER_WAY, s, marks),
-        2 => empty(start)
-            .read_field(0, PIN, s, marks)
+        2 => bare(End::Next(start)).read_field(0, PIN, s, marks)
             .read_field(1, EITHER_WAY, s, marks),
-        3 => empty(start)
-            .read_field(0, PIN, s, marks)
+        3 => bare(End::Next(start)).read_field(0, PIN, s, marks)
             .read_field(1, PIN, s, marks),
-        4 => empty(start)
-            .read_field(0, PIN, s, marks)
+        4 => bare(End::Next(start)).read_field(0, PIN, s, marks)
             .read_field(1, PIN, s, marks)
             .read_field(2, UNIT, s, marks)
             .read_field(3, TIME, s, marks)
             .read_field(4, TIME, s, marks),
-        5 => empty(start)
-            .read_field(0, PIN, s, marks)
+        5 => bare(End::Next(start)).read_field(0, PIN, s, marks)
             .read_field(1, PIN, s, marks)
             .read_field(2, UNIT, s, marks)
             .read_field(3, TIME, s, marks),
-        6 => empty(start)
-            .read_field(0, PIN, s, marks)
+        6 => bare(End::Next(start)).read_field(0, PIN, s, marks)
             .read_field(1, UNIT, s, marks)
             .read_field(2, TIME, s, marks)
             .read_field(3, OFF_TIME, s, marks),
-        7 => empty(start)
-            .read_field(0, PIN, s, marks)
+        7 => bare(End::Next(start)).read_field(0, PIN, s, marks)
             .read_field(1, PIN, s, marks)
             .read_field(2, TIME, s, marks),
-        8 => empty(start)
-            .read_field(0, PIN, s, marks)
+        8 => bare(End::Next(start)).read_field(0, PIN, s, marks)
             .read_field(1, PIN, s, marks)
             .read_field(2, PIN, s, marks)
             .read_field(3, PIN, s, marks)
             .read_field(4, PLUS_MINUS, s, marks),
-        9 => empty(start)
-            .read_field(0, PIN, s, marks)
+        9 => bare(End::Next(start)).read_field(0, PIN, s, marks)
             .read_field(1, RELATION, s, marks)
             .read_field(2, WORD_PIN, s, marks)
             .read_field(3, WORD_PIN, s, marks),
-        10 => empty(start)
-            .read_field(0, PIN, s, marks)
+        10 => bare(End::Next(start)).read_field(0, PIN, s, marks)
             .read_field(1, PLUS_MINUS, s, marks)
             .read_field(2, DIVISOR, s, marks)
             .read_field(3, PLUS_MINUS, s, marks)
             .read_field(4, WORD_PIN, s, marks),
-        11 => empty(start)
-            .read_field(0, PIN, s, marks)
+        11 => bare(End::Next(start)).read_field(0, PIN, s, marks)
             .read_field(1, EITHER_WAY, s, marks)
             .read_field(2, WORD_PIN, s, marks)
             .read_field(3, WORD_PIN, s, marks)
             .read_field(4, WORD_PIN, s, marks),
-        _ => empty(start)
-            .read_field(0, PIN, s, marks)
+        _ => bare(End::Next(start)).read_field(0, PIN, s, marks)
             .read_field(1, WORD_PIN, s, marks)
             .read_field(2, WORD_PIN, s, marks)
             .read_field(3, WORD_PIN, s, marks),

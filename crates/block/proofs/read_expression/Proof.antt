@@ -16,5 +16,5 @@ read-expression-spec =
     (λ c. search needs)
     (λ c. tree-full _ _ _ (expr-whole _ _ _ _ _ (sym (c .before .before .before .pass .ensures) ∙ c .before .e2 .given .1)) .0)
     (λ c. search needs)
-    (λ c. c .blank .ensures ∙ tree-stopped _ _ _ (expr-fault _ _ _ _ _ (sym (c .before .before .before .before .pass .ensures) ∙ c .before .before .e .given .1)))
+    (λ c. c .bare .ensures ∙ tree-stopped _ _ _ (expr-fault _ _ _ _ _ (sym (c .before .before .before .before .pass .ensures) ∙ c .before .before .e .given .1)))
     (λ c. tree-full _ _ _ (expr-whole _ _ _ _ _ (sym (c .before .before .before .pass .ensures) ∙ c .before .e2 .given .1)) .1))

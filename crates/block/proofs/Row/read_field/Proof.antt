@@ -28,7 +28,7 @@ read-field-spec =
     let after-read-number = after-n .before .before in
     let after-if1 = after-read-number .before in
     let after-end = after-if1 .before .before in
-    c .blank .ensures ∙ more-fault _ _ _ _ _ (after-end .end .given .1)
+    c .bare .ensures ∙ more-fault _ _ _ _ _ (after-end .end .given .1)
     (⊎-elim (λ w. w .1 ∙ rw (w .0 .taken) refl) (λ w. w .2 ∙ before-place _ _ (w .0 .left)) (after-if1 .if1 .came))
     (typed-fault _ _ _ _ _ (sym (after-read-number .read-number .ensures) ∙ after-n .n .given .1)))
     (λ c.
