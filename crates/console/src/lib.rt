@@ -3,9 +3,7 @@ use calls::ScanAnswer;
 use calls::TakeAnswer;
 use journal::Stamp;
 ghost use mathlib.Core.Path.{_≡_};
-ghost use Rattle.image.specs.Image.{imageOf};
 ghost use Rattle.image.specs.Lent.{before, after};
-ghost use Rattle.image.specs.State.{freshState};
 ghost use Rattle.scanning.specs.Scan.{inputs};
 ghost use Rattle.calls.specs.InPlace.{scannedIn, afterScan, takenIn, afterTake};
 
@@ -75,25 +73,4 @@ pub fn take_in(
         found: o.found,
         entry: e,
     }
-}
-
-// Makes the state a fresh one.
-pub fn fresh_in(
-    counts: &mut [u64; 4],
-    times: &mut [u64; 32],
-    numbers: &mut [u8; 32],
-    ticks: &mut [u32; 200],
-    words: &mut [i16; 200],
-    pins: &mut [u8; 200],
-    outputs: &mut [u8; 200],
-)
-    ensures { λ _. ⌜ after counts times numbers ticks words pins outputs ≡ imageOf freshState ⌝ }
-{
-    *counts = [0; 4];
-    *times = [0; 32];
-    *numbers = [0; 32];
-    *ticks = [0; 200];
-    *words = [0; 200];
-    *pins = [0; 200];
-    *outputs = [0; 200];
 }

@@ -2,34 +2,11 @@
 use calls::Handed;
 use calls::Scanned;
 use image::State;
-use journal::Journal;
-use place::Place;
-use program::Acceptance;
 ghost use mathlib.Core.Path.{_≡_};
 ghost use Prim.Native.Nat.{_≤_};
 ghost use Rattle.program.specs.Acceptance.{accepted};
-ghost use Rattle.image.specs.State.{freshState};
 ghost use Rattle.scanning.specs.Scan.{inputs};
 ghost use Rattle.calls.specs.Calls.{scanOf, takeOf};
-
-// A state in which nothing has happened.
-pub fn fresh() -> State
-    ensures { λ r. ⌜ r ≡ freshState ⌝ }
-{
-    State {
-        places: [Place::fresh(); 200],
-        time: 0,
-        alarms: 0,
-        journal: Journal::fresh(),
-    }
-}
-
-// Whether a program is good, and what it takes.
-pub fn accept(program: &[u8]) -> Acceptance
-    ensures { λ r. ⌜ r ≡ accepted (now (program .entry)) ⌝ }
-{
-    program::accept(program)
-}
 
 // One scan of a program.
 pub fn scan(program: &[u8], state: State, elapsed: u16, bits: u32, words: [i16; 8]) -> Scanned

@@ -19,7 +19,7 @@ struct Desk {
 
 // The state of a new case is fresh, and its program empty.
 fn new_case() -> Desk {
-    let s = hall::fresh();
+    let s = image::State::fresh();
     Desk { state: s, size: 0 }
 }
 
@@ -43,7 +43,7 @@ fn set_program(line: &[u8], program: &mut [u8], desk: Desk) -> Desk
 
 // Command `a`: what acceptance answers.
 fn accept(program: &[u8]) {
-    let a = hall::accept(program);
+    let a = program::accept(program);
     io::write_all(STDOUT_FILENO, b"a");
     saying::say(a.refusal as u64);
     saying::say(a.place as u64);

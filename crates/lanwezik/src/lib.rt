@@ -68,7 +68,7 @@ pub extern "C" fn lanwezik_fresh_in(
 )
     ensures { λ _. ⌜ after counts times numbers ticks words pins outputs ≡ imageOf freshState ⌝ }
 {
-    console::fresh_in(counts, times, numbers, ticks, words, pins, outputs);
+    image::fresh_in(counts, times, numbers, ticks, words, pins, outputs);
 }
 
 #[no_mangle]

@@ -99,7 +99,7 @@ pub fn open_recording(s: &[u8], program: &mut [u8], out: &mut [u8]) -> Opened
         Head::Program(size, at) => {
             let next = at + size;
             put(program, 0, &s[at..next]);
-            let a = hall::accept(&s[at..next]);
+            let a = program::accept(&s[at..next]);
             if a.refusal != 0 {
                 let to = lines::write_refused(out, 0, a.refusal, a.place);
                 return Opened {

@@ -36,6 +36,8 @@ use Rattle.journal.proofs.rises.Reads as journal-rises
 use Rattle.journal.proofs.Journal.fresh.Reads as journal-journal-fresh
 use Rattle.journal.proofs.Journal.rise.Reads as journal-journal-rise
 use Rattle.journal.proofs.Journal.take.Reads as journal-journal-take
+use Rattle.image.proofs.State.fresh.Reads as image-state-fresh
+use Rattle.image.proofs.fresh_in.Reads as image-fresh-in
 use Rattle.image.proofs.journal_in.Reads as image-journal-in
 use Rattle.image.proofs.put_journal.Reads as image-put-journal
 use Rattle.inspection.proofs.good.Reads as inspection-good
@@ -68,11 +70,8 @@ use Rattle.calls.proofs.refuse_after.Reads as calls-refuse-after
 use Rattle.calls.proofs.refuse_take.Reads as calls-refuse-take
 use Rattle.console.proofs.scan_in.Reads as console-scan-in
 use Rattle.console.proofs.take_in.Reads as console-take-in
-use Rattle.console.proofs.fresh_in.Reads as console-fresh-in
 use Rattle.states.proofs.put_state.Reads as states-put-state
 use Rattle.states.proofs.state_in.Reads as states-state-in
-use Rattle.hall.proofs.fresh.Reads as hall-fresh
-use Rattle.hall.proofs.accept.Reads as hall-accept
 use Rattle.hall.proofs.scan.Reads as hall-scan
 use Rattle.hall.proofs.take.Reads as hall-take
 use Rattle.lanwezik.proofs.lanwezik_accept.Reads as lanwezik-accept
@@ -141,6 +140,8 @@ pub record Determinacy : Type 0 where
   pub journal-journal-fresh : Determined journal-journal-fresh.Learnt
   pub journal-journal-rise : Determined journal-journal-rise.Learnt
   pub journal-journal-take : Determined journal-journal-take.Learnt
+  pub image-state-fresh : Determined image-state-fresh.Learnt
+  pub image-fresh-in : DeterminedWith (λ κ u. imageFrom u) image-fresh-in.Learnt
   pub image-journal-in : Determined image-journal-in.Learnt
   pub image-put-journal : DeterminedWith (λ κ u. logFrom (u .1)) image-put-journal.Learnt
   pub inspection-good : Determined inspection-good.Learnt
@@ -173,11 +174,8 @@ pub record Determinacy : Type 0 where
   pub calls-refuse-take : Determined calls-refuse-take.Learnt
   pub console-scan-in : DeterminedWith (λ κ u. imageFrom (u .1)) console-scan-in.Learnt
   pub console-take-in : DeterminedWith (λ κ u. imageFrom u) console-take-in.Learnt
-  pub console-fresh-in : DeterminedWith (λ κ u. imageFrom u) console-fresh-in.Learnt
   pub states-put-state : DeterminedWith (λ κ u. imageFrom (u .1)) states-put-state.Learnt
   pub states-state-in : Determined states-state-in.Learnt
-  pub hall-fresh : Determined hall-fresh.Learnt
-  pub hall-accept : Determined hall-accept.Learnt
   pub hall-scan : Determined hall-scan.Learnt
   pub hall-take : Determined hall-take.Learnt
   pub lanwezik-accept : Determined lanwezik-accept.Learnt

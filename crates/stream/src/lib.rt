@@ -86,7 +86,7 @@ fn play(fd: i32, buf: &mut [u8], start: Span, program: &[u8], out: &mut [u8]) ->
     ensures { λ r. ⌜ r ≤ length (now (out .exit)) ⌝ }
 {
     let mut at = start;
-    let mut state = hall::fresh();
+    let mut state = image::State::fresh();
     let mut to: usize = 0;
     let mut left = SCANS;
     while 0 < left {
