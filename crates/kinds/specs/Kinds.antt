@@ -1,7 +1,7 @@
 -- Document 01, "Program bytes": the table of kinds, and the memory, step figure and mark of a block.
 use mathlib.Core.List.{List, [], _∷_}
 use mathlib.Core.Bool.{Bool, true, false}
-use Prim.Native.Nat.{ℕ, _+_}
+use Prim.Native.Nat.{ℕ, suc, _+_}
 use lib.ListN.{getD}
 use lib.Dec.{eqb}
 use Rattle.terms.specs.Choice.{pick}
@@ -12,9 +12,9 @@ use Rattle.numbers.specs.Types.{pin, wordPin, plusMinus, time, unit, eitherWay,
 abbrev pub expression : ℕ
 expression = numberTypes
 
--- no field
+-- no field (ours): what a row is said to have past its end
 abbrev pub nothing : ℕ
-nothing = 14
+nothing = suc expression
 
 -- The table of kinds: fields, memory (of a BL without its nodes), and whether there is a word output.
 pub record Kind : Type 0 where

@@ -46,7 +46,7 @@ module _ (bytes : List ℕ) where
   handedOut s [] = []
   handedOut s (c ∷ cs) = entriesOf s c ++ handedOut (stateOf s c) cs
 
-  -- "refused calls left out"
+  -- the calls that were answered: those refused are left out
   unfoldable pub answeredOf : State → List Call → List Call
   answeredOf s [] = []
   answeredOf s (c ∷ cs) = pick (eqb (refusalOf s c) 0) (c ∷ answeredOf (stateOf s c) cs) (answeredOf (stateOf s c) cs)

@@ -23,7 +23,7 @@ pub fn demand_three()
     ensures { λ _. ⌜ EveryHistory ⌝ }
 {}
 
-// A good state is handed back for a good state; from fresh, none is ever refused.
+// A good state is handed back for a good state, so from fresh no call is refused with 5.
 pub fn closure()
     ensures { λ _. ⌜ Closure ⌝ }
 {}
