@@ -12,6 +12,7 @@ use Rattle.wire.specs.declared.Num.the-variants.{Got, Bad, Cut}
 use Rattle.wire.specs.Number.{byteAt, more, notZero, groupsAt, groupsOf}
 use Rattle.wire.specs.Facts.{Stands, Bytes, NumberFacts}
 use Rattle.terms.proofs.Choice.{pick-case}
+use Rattle.wire.proofs.Reasons.{cut-exactly, bad-exactly}
 
 -- what an answer of at most k groups, from `at` on, tells of its value and of the place after it
 abbrev Fair : ℕ → List ℕ → ℕ → Num → Type 0
@@ -123,4 +124,4 @@ pub agree :
 agree k s t at to v next e st = back k t to v (some k s at v next e) (below k 0 s at v next e) st
 
 pub facts : NumberFacts
-facts = record { below = below; takes = takes; back = back; form = form; agree = agree }
+facts = record { below = below; takes = takes; back = back; form = form; agree = agree; cut = cut-exactly; bad = bad-exactly }
