@@ -26,6 +26,7 @@ use Rattle.image.specs.State.{goodPlace}
 use Rattle.scanning.specs.Scan.{Inputs, scanTo}
 use Rattle.terms.proofs.Every.{both-hold, every-at, every-replicate, every-set}
 use Rattle.promises.proofs.ReadPrograms.{Row, Rows, setting-below, period-some}
+use Rattle.promises.proofs.EachKind.{Each, _also_, done, of-each}
 use Rattle.promises.proofs.Ticks.{most, Few, dl-few, os-few, fl-few, og-few}
 
 -- at most four pins are at most 15
@@ -50,24 +51,13 @@ bl-good : (value : Bool) (p : Place) → goodPlace p ≡ true → goodPlace (bl 
 unfolding bl goodPlace
 bl-good value p h = h
 
--- the rules, one after the other in the order of the table; there is none past the last, and the place stays
-
+-- the rules, one after the other in the order of the table
 module _ (cs : List Content) (pin : ℕ → Bool) (word : ℕ → ℤ) (e : ℕ) (p : Place) (h : goodPlace p ≡ true) where
   -- a rule keeps the place good, with the settings of a row of its kind
   abbrev Keeps : ℕ → Rule → Type 0
   Keeps kind r = Row (record { kind = kind; fields = cs }) → goodPlace (r pin word (λ i. settingOf (fieldOf cs i)) e p) ≡ true
 
-  infixr 20 _also_
-  data AllKeep : ℕ → List Rule → Type 0 where
-    done : {i : ℕ} → AllKeep i []
-    _also_ : {i : ℕ} {r : Rule} {rs : List Rule} → Keeps i r → AllKeep (suc i) rs → AllKeep i (r ∷ rs)
-
-  keep-at : {i : ℕ} {rs : List Rule} → AllKeep i rs → (kind : ℕ) → Keeps (i + kind) (getD rs kind (λ pin word set e p. p))
-  keep-at done kind = λ row. h
-  keep-at (_also_ {i} k ks) zero = let z : i + 0 ≡ i = omega arith in rw z k
-  keep-at (_also_ {i} k ks) (suc kind) = let z : i + suc kind ≡ suc i + kind = omega arith in rw z (keep-at ks kind)
-
-  all-keep : AllKeep 0 rules
+  all-keep : Each Keeps 0 rules
   unfolding kindOf sr pl al cn ud cp zc st
   all-keep =
       let few = few-of p h in
@@ -89,12 +79,13 @@ module _ (cs : List Content) (pin : ℕ → Bool) (word : ℕ → ℤ) (e : ℕ)
       also (λ _. stores-good (pin 0 ∷ []) _ _ _ (lit≤ tt) few)
       also done
 
+  keeps : (kind : ℕ) → Keeps kind (ruleOf kind)
+  keeps = of-each Keeps (λ k row. h) all-keep
+
 ruled-good : (f : Bit → Bool) (g : Word → ℤ) (e : ℕ) (b : Block) (p : Place) → Row b → goodPlace p ≡ true → goodPlace (ruled f g e b p) ≡ true
-unfolding ruled ruleOf
+unfolding ruled
 ruled-good f g e b p row h =
-    let pin : ℕ → Bool = λ i. pinOf f (fieldOf (b .fields) i) in
-    let word : ℕ → ℤ = λ i. wordOfField g (fieldOf (b .fields) i) in
-    (rw (zero-add (b .kind)) at (keep-at (b .fields) pin word e p h (all-keep (b .fields) pin word e p h) (b .kind))) row
+    keeps (b .fields) (λ i. pinOf f (fieldOf (b .fields) i)) (λ i. wordOfField g (fieldOf (b .fields) i)) e p h (b .kind) row
 
 zero-good : goodPlace freshPlace ≡ true
 unfolding goodPlace

@@ -2,6 +2,7 @@ pub mod Acceptance
 pub mod Refusals
 pub mod ReadPrograms
 pub mod Ticks
+pub mod EachKind
 pub mod GoodPlaces
 pub mod GoodJournal
 pub mod Closed
@@ -10,3 +11,5 @@ pub mod Ledgers
 pub mod Steps
 pub mod Histories
 pub mod Consoles
+pub mod OneScan
+pub mod Unset

@@ -6,3 +6,4 @@ pub mod Closure
 pub mod Determinacy
 pub mod Examples
 pub mod Console
+pub mod EachBlock

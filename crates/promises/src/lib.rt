@@ -2,6 +2,7 @@
 // the calls' contracts cite. `specs/` says what each means.
 ghost use Rattle.promises.specs.Demand1.{Demand1};
 ghost use Rattle.promises.specs.Demand2.{EveryRun};
+ghost use Rattle.promises.specs.EachBlock.{EachBlock};
 ghost use Rattle.promises.specs.Demand3.{EveryHistory};
 ghost use Rattle.promises.specs.Closure.{Closure};
 ghost use Rattle.promises.specs.Console.{Console};
@@ -16,6 +17,11 @@ pub fn demand_one()
 // Exactly the block rules, in every scan of a run.
 pub fn demand_two()
     ensures { λ _. ⌜ EveryRun ⌝ }
+{}
+
+// The same clause by clause: what a block of a scan reads, and what a scan leaves as it was.
+pub fn each_block()
+    ensures { λ _. ⌜ EachBlock ⌝ }
 {}
 
 // No alarm is lost silently.
