@@ -15,9 +15,9 @@ use Rattle.block.specs.Asking.{asks, asking}
 use Rattle.numbers.specs.Reading.{Marks, bitMarked, wordMarked}
 use Rattle.program.specs.Program.{Program}
 use Rattle.program.specs.Acceptance.{marksOf}
-use Rattle.program.specs.References.{blockPasses, allPass, bitThere, wordThere, allThere}
+use Rattle.program.specs.References.{blockPasses, allPass, bitThere, wordThere, kindsOf, allThere}
 use Rattle.program.specs.Trial.{firstBlocks, askedBy, allAnswer}
-use Rattle.program.proofs.Marks.{mark-at, marked-words}
+use Rattle.program.proofs.Marks.{mark-at, marked-words, kinds-long}
 
 -- the marks of the first n blocks, where only their number is known
 first-at : (n m i : ℕ) → _≡_ {A = ℕ} (getD (replicate n 2 ++ replicate m 0) i 0) (pick (ltb i n) 2 0)
@@ -33,12 +33,12 @@ first-word : (n i : ℕ) → wordMarked (firstBlocks n) (wordOf i) ≡ ltb i n
 unfolding firstBlocks
 first-word n i = rw (first-at n (200 - n) i) (first-tells (ltb i n) .1)
 
-first-bits : (bs : List Block) (b : Bit) → bitMarked (firstBlocks (length bs)) b ≡ bitThere bs b
+first-bits : (bs : List Block) (b : Bit) → bitMarked (firstBlocks (length bs)) b ≡ bitThere (kindsOf bs) b
 unfolding firstBlocks
 first-bits bs off = refl
 first-bits bs on = refl
 first-bits bs (input i) = refl
-first-bits bs (output i) = rw (first-at (length bs) (200 - length bs) i) (first-tells (ltb i (length bs)) .0)
+first-bits bs (output i) = rw (first-at (length bs) (200 - length bs) i, kinds-long bs) (first-tells (ltb i (length bs)) .0)
 
 -- where one more block is asked, it allAnswer too
 asked-above : (k : Marks) (n i : ℕ) (l : List ℕ) → n ≤ i → allAnswer n (set l i 1) k ≡ allAnswer n l k
@@ -138,13 +138,15 @@ pub there-answers :
 unfolding allThere allPass
 there-answers p few =
     let bs : List Block = p .blocks in
+    let ks : List ℕ = kindsOf bs in
     let k : Marks = marksOf bs in
     let f : Marks = firstBlocks (length bs) in
-    let eb : bitMarked f ≡ bitThere bs = fun-ext (first-bits bs) in
-    let ew : wordMarked k ≡ wordThere bs = fun-ext (marked-words bs) in
-    let w = blocks-walk (length bs) k (λ i e. marked-words bs (wordOf i) ∙ rw e) (bitThere bs) bs (replicate 200 0) (rw (length-replicate {A = ℕ} 200 0) few) in
-    let e : every (blockPasses (bitThere bs) (wordMarked k)) bs
-    ≡ (every (blockPasses (bitThere bs) (wordMarked f)) bs && allAnswer (length bs) (askedBy bs (replicate 200 0)) k)
+    let eb : bitMarked f ≡ bitThere ks = fun-ext (first-bits bs) in
+    let ew : wordMarked k ≡ wordThere ks = fun-ext (marked-words bs) in
+    let none : (i : ℕ) → ltb i (length bs) ≡ false → wordMarked k (wordOf i) ≡ false = λ i e. marked-words bs (wordOf i) ∙ rw (kinds-long bs, e) in
+    let w = blocks-walk (length bs) k none (bitThere ks) bs (replicate 200 0) (rw (length-replicate {A = ℕ} 200 0) few) in
+    let e : every (blockPasses (bitThere ks) (wordMarked k)) bs
+    ≡ (every (blockPasses (bitThere ks) (wordMarked f)) bs && allAnswer (length bs) (askedBy bs (replicate 200 0)) k)
     = rw (unasked k (length bs) few) at (w .told) in
     rw (eb, sym ew, e)
-    (swap (every (blockPasses (bitThere bs) (wordMarked f)) bs) (allAnswer (length bs) (askedBy bs (replicate 200 0)) k) (every (bitThere bs) (p .alarms)))
+    (swap (every (blockPasses (bitThere ks) (wordMarked f)) bs) (allAnswer (length bs) (askedBy bs (replicate 200 0)) k) (every (bitThere ks) (p .alarms)))

@@ -19,8 +19,7 @@ use Rattle.numbers.proofs.References.{bit-cases, word-cases, allowed-below}
 use Rattle.kinds.specs.Kinds.{memoryLimit}
 use Rattle.program.specs.Program.{Program, programAt, memory, figure}
 use Rattle.program.specs.Acceptance.{refused, granted, everyBlock, marksOf, byMemory, byReferences, accepted}
-use Rattle.program.specs.Places.{Placed, is-bad, is-cut, is-outside, is-astray}
-use Rattle.program.proofs.Faults.{program-placed, program-fault}
+use Rattle.program.proofs.Faults.{Real, plain, strayed, program-real, program-fault}
 
 -- where every block is marked, so is all that an allowed number refers to
 every-bit : (v : ℕ) → v < 234 → refsPass (bitMarked everyBlock) (wordMarked everyBlock) (bit (bitRef v) ∷ []) ≡ true
@@ -33,7 +32,7 @@ every-word v =
     word-cases (λ w. refsPass (bitMarked everyBlock) (wordMarked everyBlock) (word w ∷ []) ≡ true) v (λ _. refl)
     (λ g h. rw (getD-replicate {A = ℕ} 200 (v - 8) 2 0 (omega arith))) (λ _. refl)
 
-every-marked : (ty before v : ℕ) → allowed ty before v ≡ true → marked everyBlock ty v ≡ true
+pub every-marked : (ty before v : ℕ) → allowed ty before v ≡ true → marked everyBlock ty v ≡ true
 unfolding marked saidBy contentOf
 every-marked ty before v a =
     let below = allowed-below ty before v a in
@@ -44,16 +43,14 @@ every-marked ty before v a =
     (λ _. pick-case P (eqb ty pin) (λ e. every-bit v (rw (eqb-true ty pin e) at below))
     (λ _. pick-case P (eqb ty wordPin) (λ _. every-word v) (λ _. refl)))
 
-placed-inside : {s : List ℕ} {n at : ℕ} → Placed everyBlock s n at → n ≡ astray → ⊥
-placed-inside (is-bad h e) z = omega arith
-placed-inside (is-cut h e) z = omega arith
-placed-inside (is-outside h l) z = omega arith
-placed-inside (is-astray {v = v} ty before h e a u) _ =
+not-astray : {n : ℕ} → Real everyBlock n → n ≡ astray → ⊥
+not-astray (plain h l) z = l z
+not-astray (strayed ty before v e a u) _ =
     let z : true ≡ false = sym (every-marked ty before v a) ∙ u in
     let w : _≡_ {A = ℕ} 0 1 = cc in absurd (omega arith)
 
 pub reads-all : (s : List ℕ) {n at : ℕ} → programAt everyBlock s ≡ fault n at → n ≡ astray → ⊥
-reads-all s e = placed-inside (program-placed everyBlock s e)
+reads-all s e = not-astray (program-real everyBlock s e)
 
 -- what acceptance says of a program that it does not refuse
 pub data Good (s : List ℕ) : Type 0 where

@@ -1,7 +1,7 @@
 -- A good state stays good in every answer: a refusal hands it back, a scan's places and rises and a take keep it good. So no call from
 -- fresh is refused with 5: acceptance never refuses with 5, and the state is good. Assumes nothing.
 use Prim.Native.Nat.{ℕ}
-use mathlib.Core.Path.{_≡_, sym, ap, _∙_}
+use mathlib.Core.Path.{_≡_, refl, sym, ap, _∙_}
 use mathlib.Core.Bool.{true}
 use mathlib.Core.List.{List, [], _∷_}
 use native.Mathlib.Omega.{arith}
@@ -9,8 +9,9 @@ use lib.ListN.{length}
 use Rattle.terms.specs.Choice.{every}
 use Rattle.terms.proofs.Choice.{both}
 use Rattle.terms.proofs.Every.{both-hold}
-use Rattle.numbers.specs.Reading.{Marks}
-use Rattle.program.specs.Places.{Placed, is-bad, is-cut, is-outside, is-astray}
+use Rattle.order.specs.Order.{Wrong, malformed, isCut, notAllowed, tooDeep, tooMany, extra, Item}
+use Rattle.order.specs.Acceptance.{refusalFor, Accepting, stops, strays, overflows, passes}
+use Rattle.order.proofs.Orders.{in-order}
 use Rattle.program.specs.declared.Acceptance.{Acceptance}
 use Rattle.program.specs.Program.{Program}
 use Rattle.program.specs.Acceptance.{everyBlock, accepted}
@@ -23,16 +24,15 @@ use Rattle.scanning.specs.Scan.{Inputs}
 use Rattle.terms.specs.Refusals.{badState}
 use Rattle.calls.specs.Calls.{stampOf, answered, scanOf, handedBy, takeOf}
 use Rattle.promises.specs.Closure.{Closure}
-use Rattle.promises.specs.Demand1.{Accepting, stops, strays, overflows, passes, Scanning, refuses-program}
+use Rattle.promises.specs.Demand1.{Scanning, refuses-program}
 use Rattle.promises.specs.Demand1.{refuses-state, refuses-time, refuses-missed, answers, Taking, refuses, hands}
 use Rattle.promises.specs.History.{Call, scan, take, refusalOf, stateOf, stateAfter}
-use Rattle.promises.proofs.Acceptance.{accept-row}
 use Rattle.promises.proofs.Refusals.{scan-row, take-row}
 use Rattle.promises.proofs.GoodJournal.{fresh-journal, risen-good, taken-good}
 use Rattle.promises.proofs.GoodPlaces.{fresh-places, scan-good}
 use Rattle.promises.proofs.ReadPrograms.{Rows, program-rows}
 
-fresh-good : goodState freshState ≡ true
+pub fresh-good : goodState freshState ≡ true
 unfolding freshState goodState
 fresh-good = both-hold fresh-places fresh-journal
 
@@ -45,17 +45,22 @@ answered-good p rows x s h =
     both-hold (scan-good x (p .blocks) rows (length (p .blocks)) (s .places) (o .0)) (risen-good _ (s .alarms) (stampOf x (s .time)) (s .journal) (o .1))
 
 -- acceptance never refuses with 5
-placed-other : {m : Marks} {s : List ℕ} {n at : ℕ} → Placed m s n at → n ≡ badState → ⊥
-placed-other (is-bad h e) z = omega arith
-placed-other (is-cut h e) z = omega arith
-placed-other (is-outside h l) z = omega arith
-placed-other (is-astray ty before h e a u) z = omega arith
+wrong-other : (w : Wrong) → refusalFor w ≡ badState → ⊥
+wrong-other malformed z = omega arith
+wrong-other isCut z = omega arith
+wrong-other notAllowed z = omega arith
+wrong-other tooDeep z = omega arith
+wrong-other tooMany z = omega arith
+wrong-other extra z = omega arith
 
-accepted-other : (bytes : List ℕ) → Accepting bytes (accepted bytes) → accepted bytes .refusal ≡ badState → ⊥
-accepted-other bytes (stops n at e few q a) z = placed-other q (sym (ap (λ (y : Acceptance). y .refusal) a) ∙ z)
-accepted-other bytes (strays p end at e t r q a) z = omega (arith, ap (λ (y : Acceptance). y .refusal) a)
-accepted-other bytes (overflows p end e t m a) z = omega (arith, ap (λ (y : Acceptance). y .refusal) a)
-accepted-other bytes (passes p end e t m a) z = omega (arith, ap (λ (y : Acceptance). y .refusal) a)
+row-other : {l : List Item} {a : Acceptance} → Accepting l a → a .refusal ≡ badState → ⊥
+row-other (stops before after i w h g x e) z = wrong-other w (sym (ap (λ (y : Acceptance). y .refusal) e) ∙ z)
+row-other (strays before after i g h t f e) z = omega (arith, ap (λ (y : Acceptance). y .refusal) e)
+row-other (overflows g t m e) z = omega (arith, ap (λ (y : Acceptance). y .refusal) e)
+row-other (passes g t m e) z = omega (arith, ap (λ (y : Acceptance). y .refusal) e)
+
+pub accepted-other : (bytes : List ℕ) → accepted bytes .refusal ≡ badState → ⊥
+accepted-other bytes = row-other (in-order bytes (accepted bytes) .0 refl)
 
 -- what a good state comes to in a scan, and in a take
 abbrev ScanKeeps : Scanned → Type 0
@@ -64,7 +69,7 @@ ScanKeeps a = (goodState (a .state) ≡ true) × (a .refusal ≡ badState → �
 scan-keeps : (bytes : List ℕ) (x : Inputs) (s : State) → goodState s ≡ true → Scanning bytes x s (scanOf bytes x s) → ScanKeeps (scanOf bytes x s)
 unfolding answered
 scan-keeps bytes x s h (refuses-program n r) =
-    (ap goodState (r .state) ∙ h, λ e. accepted-other bytes (accept-row bytes) (sym (r .refusal) ∙ e))
+    (ap goodState (r .state) ∙ h, λ e. accepted-other bytes (sym (r .refusal) ∙ e))
 scan-keeps bytes x s h (refuses-state ok g r) = let z : _≡_ {A = ℕ} 0 1 = cc in absurd (omega arith)
 scan-keeps bytes x s h (refuses-time ok g t r) = (ap goodState (r .state) ∙ h, λ e. omega (arith, r .refusal))
 scan-keeps bytes x s h (refuses-missed ok g m r) = (ap goodState (r .state) ∙ h, λ e. omega (arith, r .refusal))

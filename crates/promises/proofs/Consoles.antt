@@ -27,9 +27,9 @@ use Rattle.promises.proofs.GoodPlaces.{packed-below}
 use Rattle.promises.proofs.ReadPrograms.{alarms-few}
 
 -- what a state needs to have an image
-record Kept (s : State) : Type 0 where
-  whole : Whole s
-  alarms : s .alarms < 2 ^ 32
+pub record Kept (s : State) : Type 0 where
+  pub whole : Whole s
+  pub alarms : s .alarms < 2 ^ 32
 
 -- the alarm word that a scan answers fits
 abbrev Fits : Scanned → Type 0
@@ -72,7 +72,7 @@ module _ (bytes : List ℕ) where
   images s k [] = refl
   images s k (c ∷ cs) = rw (one-call bytes s k c) (images (stateOf bytes s c) (still-kept bytes s k c) cs)
 
-kept-fresh : Kept freshState
+pub kept-fresh : Kept freshState
 unfolding freshState freshJournal
 kept-fresh = record { whole = record { places = length-replicate 200 freshPlace; entries = length-replicate 32 zeroEntry }; alarms = omega arith }
 

@@ -1,14 +1,14 @@
 -- A place that passes the state check still does after the rule of any kind whose settings were read, and so do all places after a scan.
 -- Assumes nothing.
-use Prim.Native.Nat.{ℕ, zero, suc, _+_, _^_, _≤_, _<_}
+use Prim.Native.Nat.{ℕ, zero, suc, _^_, _≤_, _<_}
 use mathlib.Core.Path.{_≡_, refl}
 use mathlib.Core.Bool.{Bool, true}
 use mathlib.Core.List.{List, [], _∷_}
 use native.Mathlib.Omega.{arith}
-use native.Mathlib.Nat.{pow-suc, zero-add}
+use native.Mathlib.Nat.{pow-suc}
 use lib.Dec.{leb, lit<, lit≤}
 use lib.IntN.{ℤ}
-use lib.ListN.{length, getD, replicate}
+use lib.ListN.{length, replicate}
 use borrow.Author.Tests.{leb-true, le-leb}
 use Rattle.terms.specs.Choice.{pick, every}
 use Rattle.terms.proofs.Choice.{pick-case, both}

@@ -1,4 +1,3 @@
-pub mod Acceptance
 pub mod Refusals
 pub mod ReadPrograms
 pub mod Ticks
@@ -11,5 +10,6 @@ pub mod Ledgers
 pub mod Steps
 pub mod Histories
 pub mod Consoles
+pub mod Images
 pub mod OneScan
 pub mod Unset

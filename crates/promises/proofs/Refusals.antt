@@ -1,23 +1,42 @@
--- Every scan and every take comes to a row of the table of refusals, or is answered. Assumes nothing.
-use mathlib.Core.Path.{_≡_, refl}
-use mathlib.Core.Bool.{Bool, true, false}
+-- Every scan and every take comes to a row of the table of refusals, or is answered; and each row is what is answered. Assumes nothing.
+use mathlib.Core.Path.{_≡_, refl, sym, subst, _∙_}
+use mathlib.Core.Logic.{_↔_}
+use mathlib.Core.Bool.{Bool, true, false, or-true}
 use mathlib.Core.List.{List}
 use Prim.Native.Nat.{ℕ, _+_, _-_, _^_, _<_}
 use native.Mathlib.Omega.{arith}
-use borrow.Author.Tests.{ltb-true, ltb-false, eqb-true, eqb-false}
+use borrow.Author.Tests.{ltb-true, ltb-false, lt-ltb, le-ltb, eqb-true, eqb-false, ne-eqb}
 use lib.Dec.{ltb, eqb}
 use Rattle.program.specs.Acceptance.{accepted}
 use Rattle.program.proofs.FirstReading.{Good, good, accepted-good}
 use Rattle.image.specs.declared.State.{State}
 use Rattle.image.specs.State.{goodState, late}
 use Rattle.scanning.specs.Scan.{Inputs}
-use Rattle.calls.specs.Calls.{refusedScan, scanOf, takeOf}
-use Rattle.promises.specs.Demand1.{RefusedScan, Scanning, refuses-program, refuses-state, refuses-time, refuses-missed, answers, Taking, refuses, hands}
+use Rattle.calls.specs.declared.Scanned.{Scanned}
+use Rattle.calls.specs.declared.Handed.{Handed}
+use Rattle.calls.specs.Calls.{refusedScan, refusedTake, scanOf, takeOf}
+use Rattle.promises.specs.Demand1.{RefusedScan, Scanning, refuses-program, refuses-state, refuses-time, refuses-missed, answers}
+use Rattle.promises.specs.Demand1.{RefusedTake, Taking, refuses, hands}
 
-refused-so : (s : State) (n at : ℕ) → RefusedScan s n at (refusedScan s n at)
+pub refused-so : (s : State) (n at : ℕ) → RefusedScan s n at (refusedScan s n at)
 refused-so s n at = record { state = refl; refusal = refl; place = refl; alarms = refl; steps = refl; rises = refl }
 
-positive : {n : ℕ} → (n ≡ 0 → ⊥) → 0 < n
+-- a refusal has one answer
+pub scan-refusal : {s : State} {n at : ℕ} {a : Scanned} → RefusedScan s n at a → a ≡ refusedScan s n at
+scan-refusal r =
+    λ i. record {
+      state = r .state i;
+      refusal = r .refusal i;
+      place = r .place i;
+      alarms = r .alarms i;
+      steps = r .steps i;
+      rises = r .rises i;
+    }
+
+pub take-refusal : {s : State} {n : ℕ} {a : Handed} → RefusedTake s n a → a ≡ refusedTake s n
+take-refusal r = λ i. record { state = r .state i; refusal = r .refusal i; found = r .found i; entry = r .entry i }
+
+pub positive : {n : ℕ} → (n ≡ 0 → ⊥) → 0 < n
 positive h = omega arith
 
 module _ (bytes : List ℕ) (x : Inputs) (s : State) where
@@ -49,6 +68,19 @@ module _ (bytes : List ℕ) (x : Inputs) (s : State) where
           refuses-program (positive (eqb-false _ _ ne)) (rw ne (refused-so s (accepted bytes .refusal) (accepted bytes .place)))
       by-program true ok = by-state ok (goodState s) refl
 
+  pub scan-only : {a : Scanned} → Scanning bytes x s a → a ≡ scanOf bytes x s
+  unfolding scanOf late
+  scan-only (refuses-program n r) = scan-refusal r ∙ rw (ne-eqb (accepted bytes .refusal) 0 (λ z. omega arith))
+  scan-only (refuses-state ok g r) = scan-refusal r ∙ rw (ok, g)
+  scan-only (refuses-time ok g t r) = scan-refusal r ∙ rw (ok, g, lt-ltb (2 ^ 64 - 1) (s .time + x .elapsed) t)
+  scan-only (refuses-missed ok g m r) =
+      scan-refusal r ∙ rw (ok, g, lt-ltb (2 ^ 64 - 33) (s .journal .missed) m, or-true (ltb (2 ^ 64 - 1) (s .time + x .elapsed)))
+  scan-only (answers p end ok g t m h e) =
+      e ∙ rw (ok, g, le-ltb (2 ^ 64 - 1) (s .time + x .elapsed) t, le-ltb (2 ^ 64 - 33) (s .journal .missed) m, h)
+
+  pub scan-exactly : (a : Scanned) → a ≡ scanOf bytes x s ↔ Scanning bytes x s a
+  scan-exactly a = (λ e. subst (Scanning bytes x s) (sym e) scan-row, scan-only)
+
 pub take-row : (s : State) → Taking s (takeOf s)
 unfolding takeOf
 take-row s = go (goodState s) refl
@@ -56,3 +88,11 @@ take-row s = go (goodState s) refl
     go : (b : Bool) → goodState s ≡ b → Taking s (takeOf s)
     go false g = refuses g (rw g (record { state = refl; refusal = refl; found = refl; entry = refl }))
     go true g = hands g (rw g)
+
+pub take-only : (s : State) {a : Handed} → Taking s a → a ≡ takeOf s
+unfolding takeOf
+take-only s (refuses g r) = take-refusal r ∙ rw g
+take-only s (hands g e) = e ∙ rw g
+
+pub take-exactly : (s : State) (a : Handed) → a ≡ takeOf s ↔ Taking s a
+take-exactly s a = (λ e. subst (Taking s) (sym e) (take-row s), take-only s)

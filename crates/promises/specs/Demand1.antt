@@ -1,18 +1,15 @@
 -- "Any call, any content": every call answers, or refuses by the table of refusals, and no refusal is given otherwise. That it ends is proved of
--- every function by Rattle itself. For each call the rows below exclude one another (the two of 6 give one answer), so each says exactly when
--- its answer is given.
+-- every function by Rattle itself. A row below gives one answer, and what is answered is what a row gives, exactly.
 use mathlib.Core.Bool.{true, false}
 use mathlib.Core.List.{List}
 use mathlib.Core.Path.{_≡_}
+use mathlib.Core.Logic.{_↔_}
 use Prim.Native.Nat.{ℕ, _+_, _-_, _^_, _<_, _≤_}
-use Rattle.terms.specs.Refusals.{astray, overMemory, badState, tooFar}
-use Rattle.wire.specs.Reading.{got, fault}
-use Rattle.kinds.specs.Kinds.{memoryLimit}
-use Rattle.program.specs.declared.Acceptance.{Acceptance}
-use Rattle.program.specs.Program.{Program, programAt, memory, figure}
-use Rattle.program.specs.Acceptance.{refused, granted, everyBlock, marksOf, accepted}
-use Rattle.program.specs.Places.{Placed}
-use Rattle.program.specs.References.{allThere}
+use Rattle.terms.specs.Refusals.{badState, tooFar}
+use Rattle.wire.specs.Reading.{got}
+use Rattle.program.specs.Program.{Program, programAt}
+use Rattle.program.specs.Acceptance.{everyBlock, accepted}
+use Rattle.order.specs.Acceptance.{InOrder}
 use Rattle.journal.specs.Journal.{zeroEntry, taken as takenFrom}
 use Rattle.image.specs.declared.State.{State}
 use Rattle.calls.specs.declared.Scanned.{Scanned}
@@ -20,23 +17,6 @@ use Rattle.calls.specs.declared.Handed.{Handed}
 use Rattle.image.specs.State.{goodState}
 use Rattle.scanning.specs.Scan.{Inputs}
 use Rattle.calls.specs.Calls.{answered, scanOf, handedBy, takeOf}
-
--- acceptance of a program
-pub data Accepting (s : List ℕ) (a : Acceptance) : Type 0 where
-  -- not 3: "the first fault in reading order": the first reading, which lets every reference through, stops there
-  stops : (n at : ℕ) → programAt everyBlock s ≡ fault n at → (n ≡ astray → ⊥) → Placed everyBlock s n at → a ≡ refused n at → Accepting s a
-  -- 3, "first in reading order": the program was read, and has a reference that is astray
-  strays :
-      (p : Program) (end at : ℕ) → programAt everyBlock s ≡ got p end → allThere p ≡ false →
-      programAt (marksOf (p .blocks)) s ≡ fault astray at → Placed (marksOf (p .blocks)) s astray at → a ≡ refused astray at → Accepting s a
-  -- 4, at place 0
-  overflows :
-      (p : Program) (end : ℕ) → programAt everyBlock s ≡ got p end → allThere p ≡ true →
-      memoryLimit < memory (p .blocks) → a ≡ refused overMemory 0 → Accepting s a
-  -- none of these
-  passes :
-      (p : Program) (end : ℕ) → programAt everyBlock s ≡ got p end → allThere p ≡ true →
-      memory (p .blocks) ≤ memoryLimit → a ≡ granted (memory (p .blocks)) (figure (p .blocks)) → Accepting s a
 
 -- "A refusal gives back the given state and zeros for alarm word, steps, rises and entry."
 pub record RefusedScan (s : State) (n at : ℕ) (a : Scanned) : Type 0 where
@@ -71,6 +51,7 @@ pub data Taking (s : State) (a : Handed) : Type 0 where
   hands : goodState s ≡ true → a ≡ handedBy s (takenFrom (s .journal)) → Taking s a
 
 pub record Demand1 : Type 0 where
-  pub accepting : (bytes : List ℕ) → Accepting bytes (accepted bytes)
-  pub scanning : (bytes : List ℕ) (x : Inputs) (s : State) → Scanning bytes x s (scanOf bytes x s)
-  pub taking : (s : State) → Taking s (takeOf s)
+  -- acceptance of a program, by its numbers in reading order
+  pub accepting : InOrder
+  pub scanning : (bytes : List ℕ) (x : Inputs) (s : State) (a : Scanned) → a ≡ scanOf bytes x s ↔ Scanning bytes x s a
+  pub taking : (s : State) (a : Handed) → a ≡ takeOf s ↔ Taking s a

@@ -7,3 +7,4 @@ pub mod Determinacy
 pub mod Examples
 pub mod Console
 pub mod EachBlock
+pub mod AnyImage

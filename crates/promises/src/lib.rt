@@ -1,6 +1,7 @@
 // The promises of Lanwezik, each the contract of a function that does nothing: what it ensures is a theorem over the definitions that
 // the calls' contracts cite. `specs/` says what each means.
 ghost use Rattle.promises.specs.Demand1.{Demand1};
+ghost use Rattle.promises.specs.AnyImage.{AnyImage};
 ghost use Rattle.promises.specs.Demand2.{EveryRun};
 ghost use Rattle.promises.specs.EachBlock.{EachBlock};
 ghost use Rattle.promises.specs.Demand3.{EveryHistory};
@@ -12,6 +13,11 @@ ghost use Rattle.promises.specs.Examples.{AllShown, examples};
 // Any call, any content: every call answers, or refuses by the table, and hands back the given state.
 pub fn demand_one()
     ensures { λ _. ⌜ Demand1 ⌝ }
+{}
+
+// The same for the calls that a console makes on its arrays, whatever they hold.
+pub fn any_image()
+    ensures { λ _. ⌜ AnyImage ⌝ }
 {}
 
 // Exactly the block rules, in every scan of a run.

@@ -5,6 +5,7 @@ use mathlib.Core.Bool.{Bool, true}
 use mathlib.Core.List.{List, [], _∷_}
 use native.Mathlib.Omega.{arith}
 use native.Mathlib.Nat.{le-of-suc-le-suc, not-suc-le-zero}
+use lib.Dec.{ltb}
 use lib.ListN.{length, getD, take}
 use lib.Seq.{getD-take, take-set-lt}
 use borrow.Author.Tests.{ltb-true}
@@ -12,7 +13,8 @@ use Rattle.terms.specs.Choice.{every}
 use Rattle.terms.specs.Bits.{packed}
 use Rattle.terms.proofs.Choice.{both}
 use Rattle.numbers.specs.Blocks.{Bit, off, on, input, output, Word, analog, wordOf, constant, Block, blockOf}
-use Rattle.program.specs.References.{blockPasses, bitThere, wordThere}
+use Rattle.program.specs.References.{blockPasses, bitThere, wordThere, kindsOf}
+use Rattle.program.proofs.Marks.{kinds-long}
 use Rattle.place.specs.declared.Place.{Place}
 use Rattle.place.specs.Places.{freshPlace}
 use Rattle.rules.proofs.Agree.{Turn, same-turn, bits-agree}
@@ -33,28 +35,31 @@ module _ (x : Inputs) (bs : List Block) where
   place-alike ps qs e k h =
       sym (getD-take (length bs) ps k freshPlace h) ∙ ap (λ (l : List Place). getD l k freshPlace) e ∙ getD-take (length bs) qs k freshPlace h
 
+  inside : (k : ℕ) → ltb k (length (kindsOf bs)) ≡ true → k < length bs
+  inside k h = rw (kinds-long bs) at (ltb-true k (length (kindsOf bs)) h)
+
   module _ (ps qs : List Place) (e : Alike ps qs) where
-    bits-alike : (r : Bit) → bitThere bs r ≡ true → readBit x ps r ≡ readBit x qs r
+    bits-alike : (r : Bit) → bitThere (kindsOf bs) r ≡ true → readBit x ps r ≡ readBit x qs r
     bits-alike off h = refl
     bits-alike on h = refl
     bits-alike (input i) h = refl
-    bits-alike (output k) h = ap (λ (p : Place). p .out) (place-alike ps qs e k (ltb-true k (length bs) h))
+    bits-alike (output k) h = ap (λ (p : Place). p .out) (place-alike ps qs e k (inside k h))
 
-    words-alike : (w : Word) → wordThere bs w ≡ true → readWord x ps w ≡ readWord x qs w
+    words-alike : (w : Word) → wordThere (kindsOf bs) w ≡ true → readWord x ps w ≡ readWord x qs w
     words-alike (analog i) h = refl
-    words-alike (wordOf k) h = ap (λ (p : Place). p .word) (place-alike ps qs e k (ltb-true k (length bs) (both _ _ h .0)))
+    words-alike (wordOf k) h = ap (λ (p : Place). p .word) (place-alike ps qs e k (inside k (both _ _ h .0)))
     words-alike (constant n) h = refl
 
     -- the alarm word
-    pub alarms-alike : (rs : List Bit) → every (bitThere bs) rs ≡ true → alarmWord x ps rs ≡ alarmWord x qs rs
+    pub alarms-alike : (rs : List Bit) → every (bitThere (kindsOf bs)) rs ≡ true → alarmWord x ps rs ≡ alarmWord x qs rs
     unfolding alarmWord
-    alarms-alike rs h = ap packed (bits-agree (bitThere bs) (readBit x ps) (readBit x qs) bits-alike rs h)
+    alarms-alike rs h = ap packed (bits-agree (bitThere (kindsOf bs)) (readBit x ps) (readBit x qs) bits-alike rs h)
 
-    one-turn : (i : ℕ) → blockPasses (bitThere bs) (wordThere bs) (blockOf bs i) ≡ true
-        → Turn (bitThere bs) (readBit x ps) (readBit x qs) bits-alike (wordThere bs) (readWord x ps) (readWord x qs) words-alike (blockOf bs i)
-    one-turn i h = same-turn (bitThere bs) _ _ bits-alike (wordThere bs) _ _ words-alike (blockOf bs i) h
+    one-turn : (i : ℕ) → blockPasses (bitThere (kindsOf bs)) (wordThere (kindsOf bs)) (blockOf bs i) ≡ true
+        → Turn (bitThere (kindsOf bs)) (readBit x ps) (readBit x qs) bits-alike (wordThere (kindsOf bs)) (readWord x ps) (readWord x qs) words-alike (blockOf bs i)
+    one-turn i h = same-turn (bitThere (kindsOf bs)) _ _ bits-alike (wordThere (kindsOf bs)) _ _ words-alike (blockOf bs i) h
 
-  module _ (there : every (blockPasses (bitThere bs) (wordThere bs)) bs ≡ true) (ps qs : List Place) (e : Alike ps qs) where
+  module _ (there : every (blockPasses (bitThere (kindsOf bs)) (wordThere (kindsOf bs))) bs ≡ true) (ps qs : List Place) (e : Alike ps qs) where
     pub scans-alike : (i : ℕ) → i ≤ length bs → Alike (scanTo x bs i ps) (scanTo x bs i qs)
     unfolding scanTo
     scans-alike zero h = e

@@ -1,11 +1,11 @@
 -- `promises::demand_one` meets its contract: each call by its table.
-use Rattle.promises.proofs.Acceptance.{accept-row}
-use Rattle.promises.proofs.Refusals.{scan-row, take-row}
+use Rattle.order.proofs.Orders.{in-order}
+use Rattle.promises.proofs.Refusals.{scan-exactly, take-exactly}
 use Rattle.promises.proofs.demand_one.Statement.{statement}
 use Rattle.promises.proofs.demand_one.Tie as tie
 
 returns : tie.Need-returns
-returns c = record { accepting = accept-row; scanning = scan-row; taking = take-row }
+returns c = record { accepting = in-order; scanning = scan-exactly; taking = take-exactly }
 
 pub demand-one-spec : {M : Type 1} → statement M
 demand-one-spec = tie.close (tie.spec returns)

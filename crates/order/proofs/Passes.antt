@@ -1,0 +1,83 @@
+-- Good numbers, one after the other from a spot, and the list that they begin: each takes a byte, so the list has them all. Assumes nothing.
+use Prim.Native.Nat.{ℕ, suc, _+_, _-_, _<_, _≤_}
+use mathlib.Core.Path.{_≡_, refl, subst, ap, _∙_}
+use mathlib.Core.Bool.{true, false}
+use mathlib.Core.List.{List, [], _∷_, _++_}
+use native.Mathlib.Omega.{arith}
+use native.Mathlib.Nat.{zero-add}
+use lib.Dec.{ltb}
+use lib.ListN.{length}
+use Rattle.terms.specs.Choice.{every}
+use Rattle.terms.proofs.Choice.{pick-case}
+use Rattle.terms.proofs.Every.{both-hold}
+use Rattle.wire.specs.declared.Num.{Num}
+use Rattle.wire.specs.declared.Num.the-variants.{Got, Bad, Cut}
+use Rattle.wire.specs.Number.{numberAt}
+use Rattle.wire.proofs.Laws.{takes}
+use Rattle.order.specs.Order.{Expected, Found, good, wrong, Item, Spot, countOf, foundOf, Turn, goes, stops, ends}
+use Rattle.order.specs.Order.{onward, turnOn, turnBy, turnAt, listed, numbersFrom, front, numbersIn}
+use Rattle.order.specs.Acceptance.{fares}
+
+module _ (s : List ℕ) where
+  -- what a turn tells: a good number takes bytes of the data, and one at which it stops is wrong
+  abbrev Fair : Spot → Turn → Type 0
+  Fair p (goes i q) = (fares i ≡ true) × ((p .at < q .at) × (q .at ≤ length s))
+  Fair p (stops i) = fares i ≡ false
+  Fair p ends = Unit {0}
+
+  fair-onward : (x : Expected) (xs : List Expected) (p : Spot) (next : ℕ) → p .at < next → next ≤ length s → (f : Found) → Fair p (onward x xs p next f)
+  fair-onward x xs p next h l (good v) = (refl, (h, l))
+  fair-onward x xs p next h l (wrong w) = refl
+
+  fair-on : (x : Expected) (xs : List Expected) (p : Spot) (n : Num) → numberAt s (p .at) ≡ n → Fair p (turnOn x xs p n)
+  unfolding numberAt
+  fair-on x xs p Bad e = refl
+  fair-on x xs p Cut e = refl
+  fair-on x xs p (Got v next) e =
+      let t = takes 3 0 s (p .at) v next e in
+      fair-onward x xs p next (t .0) (t .1 .1) (foundOf x (p .setting) (countOf x (p .count)) v)
+
+  fair-by : (p : Spot) (xs : List Expected) → Fair p (turnBy s p xs)
+  fair-by p [] = pick-case (Fair p) (ltb (p .at) (length s)) (λ _. refl) (λ _. tt)
+  fair-by p (x ∷ xs) = fair-on x xs p (numberAt s (p .at)) refl
+
+  fair : (p : Spot) → Fair p (turnAt s p)
+  unfolding turnAt
+  fair p = fair-by p (p .expects)
+
+  pub stop-wrong : (p : Spot) {i : Item} → turnAt s p ≡ stops i → fares i ≡ false
+  stop-wrong p e = subst (Fair p) e (fair p)
+
+  -- from one spot to another by good numbers
+  pub data Passes : Spot → List Item → Spot → Type 0 where
+    here : {p : Spot} → Passes p [] p
+    past : {p q r : Spot} {i : Item} {l : List Item} → turnAt s p ≡ goes i q → Passes q l r → Passes p (i ∷ l) r
+
+  pub joined : {p q r : Spot} {l m : List Item} → Passes p l q → Passes q m r → Passes p (l ++ m) r
+  joined here b = b
+  joined (past e a) b = past e (joined a b)
+
+  pub all-good : {p q : Spot} {l : List Item} → Passes p l q → every fares l ≡ true
+  all-good here = refl
+  all-good (past {p} e a) = both-hold (subst (Fair p) e (fair p) .0) (all-good a)
+
+  -- the place grows with each of them, within the data
+  grows : {p q : Spot} {l : List Item} → Passes p l q → p .at ≤ length s → (p .at + length l ≤ q .at) × (q .at ≤ length s)
+  grows here h = (omega arith, h)
+  grows (past {p} e a) h =
+      let t = subst (Fair p) e (fair p) in
+      let u = grows a (t .1 .1) in
+      (omega arith, u .1)
+
+  run : {p q : Spot} {l : List Item} → Passes p l q → (n : ℕ) → numbersFrom (length l + n) s p ≡ l ++ numbersFrom n s q
+  unfolding numbersFrom
+  run here n = rw (zero-add n)
+  run (past {l = l} e a) n = let z : suc (length l) + n ≡ suc (length l + n) = omega arith in rw (z, e, run a n)
+
+  -- the list begins with the numbers that were passed, and goes on with the turn after them
+  pub whole : {q : Spot} {l : List Item} → Passes front l q → numbersIn s ≡ l ++ listed (turnAt s q) (λ r. numbersFrom (length s - length l) s r)
+  unfolding numbersIn numbersFrom
+  whole {q} {l} a =
+      let u = grows a (omega arith) in
+      let z : suc (length s) ≡ length l + suc (length s - length l) = omega arith in
+      ap (λ (n : ℕ). numbersFrom n s front) z ∙ run a (suc (length s - length l))
