@@ -7,7 +7,7 @@ import sys
 
 CRATES = pathlib.Path('crates')
 # what answers nothing, or only reads and writes by the system
-NO_ANSWER = {'wire::number_facts', 'image::log_sized', 'image::columns_sized', 'stream::windows', 'stream::run'}
+NO_ANSWER = {'wire::number_facts', 'image::log_sized', 'image::columns_sized', 'order::in_order', 'stream::windows', 'stream::run', 'determinacy::one_answer'}
 
 
 def libraries():
@@ -47,7 +47,7 @@ def main():
     wrong = []
     text = pathlib.Path('docs/CONTRACTS.md').read_text()
     asked_for = text[text.index('## What a `requires` asks'):text.index('## Not covered')]
-    determinacy = (CRATES / 'promises/specs/Determinacy.antt').read_text()
+    determinacy = (CRATES / 'determinacy/specs/Determinacy.antt').read_text()
     known = {crate: edits(crate) for crate in libraries()}
     rows, named = {}, set()
     for line in text.replace(asked_for, '').splitlines():

@@ -7,7 +7,6 @@ ghost use Rattle.promises.specs.EachBlock.{EachBlock};
 ghost use Rattle.promises.specs.Demand3.{EveryHistory};
 ghost use Rattle.promises.specs.Closure.{Closure};
 ghost use Rattle.promises.specs.Console.{Console};
-ghost use Rattle.promises.specs.Determinacy.{Determinacy};
 ghost use Rattle.promises.specs.Examples.{AllShown, examples};
 
 // Any call, any content: every call answers, or refuses by the table, and hands back the given state.
@@ -43,11 +42,6 @@ pub fn closure()
 // The library's calls over a run: what a console keeps and is answered is what the calls by value give.
 pub fn console()
     ensures { λ _. ⌜ Console ⌝ }
-{}
-
-// Each public function's contract gives one answer for each input.
-pub fn determinacy()
-    ensures { λ _. ⌜ Determinacy ⌝ }
 {}
 
 // P1 to P13.

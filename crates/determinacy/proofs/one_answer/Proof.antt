@@ -1,11 +1,26 @@
--- `promises::determinacy` meets its contract: each contract says that the answer is one definition of the arguments.
-use mathlib.Core.Path.{_≡_, refl, sym, _∙_}
-use Rattle.promises.specs.Determinacy.{Determinacy}
-use Rattle.promises.proofs.determinacy.Statement.{statement}
-use Rattle.promises.proofs.determinacy.Tie as tie
+-- `determinacy::one_answer` meets its contract: each contract says that the answer is one definition of the arguments.
+use Prim.Native.Nat.{ℕ}
+use mathlib.Core.Path.{_≡_, refl, sym, ap, _∙_}
+use mathlib.Core.List.{List}
+use native.Mathlib.Omega.{arith}
+use lib.ListN.{length, getD, replicate, length-replicate, getD-replicate}
+use Rattle.determinacy.specs.Determinacy.{Determined, Determinacy}
+use Rattle.io.proofs.buffer.Reads as io-buffer
+use Rattle.determinacy.proofs.one_answer.Statement.{statement}
+use Rattle.determinacy.proofs.one_answer.Tie as tie
 
 same-two : {A B : Type 0} {a b : A} {c d : B} → a ≡ b → c ≡ d → _≡_ {A = A × B} (a, c) (b, d)
 same-two e f = rw (e, f)
+
+-- two buffers of that length that differ
+loose : Determined io-buffer.Learnt → ⊥
+loose h =
+    let filled : ℕ → List ℕ = replicate 4096 in
+    let long : (b : ℕ) → 4096 ≡ length (filled b) = λ b. sym (length-replicate 4096 b) in
+    let e : filled 0 ≡ filled 1 = h _ _ (filled 0) (filled 1) _ _ (long 0) (long 1) in
+    let first : (b : ℕ) → getD (filled b) 0 0 ≡ b = λ b. getD-replicate 4096 0 b 0 (omega arith) in
+    let z : _≡_ {A = ℕ} 0 1 = sym (first 0) ∙ ap (λ (l : List ℕ). getD l 0 0) e ∙ first 1 in
+    omega arith
 
 all : Determinacy
 all =
@@ -87,10 +102,11 @@ all =
       recording-read-head = λ κ a x y u v h k. cc;
       playback-step = λ κ a x y u v h k. (h .answer ∙ sym (k .answer), h .bytes ∙ sym (k .bytes));
       playback-open-recording = λ κ a x y u v h k. (h .answer ∙ sym (k .answer), same-two (h .program ∙ sym (k .program)) (h .bytes ∙ sym (k .bytes)));
+      loose = loose;
     }
 
 returns : tie.Need-returns
 returns c = all
 
-pub determinacy-spec : {M : Type 1} → statement M
-determinacy-spec = tie.close (tie.spec returns)
+pub one-answer-spec : {M : Type 1} → statement M
+one-answer-spec = tie.close (tie.spec returns)

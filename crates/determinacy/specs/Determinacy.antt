@@ -86,6 +86,7 @@ use Rattle.recording.proofs.read_scan.Reads as recording-read-scan
 use Rattle.recording.proofs.read_head.Reads as recording-read-head
 use Rattle.playback.proofs.step.Reads as playback-step
 use Rattle.playback.proofs.open_recording.Reads as playback-open-recording
+use Rattle.io.proofs.buffer.Reads as io-buffer
 
 -- any two answers that meet a contract on the same arguments are equal
 abbrev pub Determined : {K : Type 0} {A B E : K → Type 0} → ((κ : K) → A κ → B κ → E κ → Type 0) → Type 0
@@ -190,3 +191,5 @@ pub record Determinacy : Type 0 where
   pub recording-read-head : Determined recording-read-head.Learnt
   pub playback-step : DeterminedWith (λ κ u. now (u .1 .1 .1 .1 .0)) playback-step.Learnt
   pub playback-open-recording : DeterminedWith {L = List ℕ × List ℕ} (λ κ u. (now (u .1 .0), now (u .1 .1 .0))) playback-open-recording.Learnt
+  -- and a loose contract does not: all that the kit's `io::buffer` ensures is how long the buffer is
+  pub loose : Determined io-buffer.Learnt → ⊥
