@@ -1,4 +1,3 @@
-pub mod Never
 pub mod Rows
 pub mod Passes
 pub mod Comes

@@ -6,7 +6,7 @@ use mathlib.Core.Bool.{true, false}
 use mathlib.Core.List.{List, [], _∷_, _++_, append-nil}
 use lib.ListN.{length}
 use Rattle.terms.specs.Choice.{every}
-use Rattle.terms.proofs.Choice.{both}
+use Rattle.terms.proofs.Choice.{never, both}
 use Rattle.terms.proofs.Every.{every-join}
 use Rattle.wire.specs.Reading.{Read, got, fault}
 use Rattle.numbers.specs.Blocks.{Block}
@@ -18,7 +18,6 @@ use Rattle.program.proofs.FirstReading.{every-marked}
 use Rattle.program.proofs.Marks.{marked-bits, marked-words}
 use Rattle.order.specs.Order.{Item, Spot, goes, stops, ends, turnAt, numbersFrom, front, numbersIn}
 use Rattle.order.specs.Acceptance.{kindsIn, isThere, fares, InOrder}
-use Rattle.order.proofs.Never.{never}
 use Rattle.order.proofs.Rows.{none, first, firstNot, none-fails, fails-at, refusalOf, byReferences, acceptedBy, rows}
 use Rattle.order.proofs.Passes.{stop-wrong, all-good, whole}
 use Rattle.order.proofs.Comes.{marks, Way, at-wrong, at-astray, at-both, Comes, reads, halts}

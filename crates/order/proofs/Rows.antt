@@ -9,14 +9,13 @@ use lib.Dec.{ltb}
 use borrow.Author.Tests.{ltb-true, ltb-false, lt-ltb, le-ltb}
 use Rattle.terms.specs.Choice.{pick, every}
 use Rattle.terms.specs.Refusals.{astray, overMemory}
-use Rattle.terms.proofs.Choice.{both}
+use Rattle.terms.proofs.Choice.{never, both}
 use Rattle.terms.proofs.Every.{both-hold}
 use Rattle.kinds.specs.Kinds.{memoryLimit}
 use Rattle.program.specs.declared.Acceptance.{Acceptance}
 use Rattle.program.specs.Acceptance.{refused, granted}
 use Rattle.order.specs.Order.{Found, good, wrong, Item}
 use Rattle.order.specs.Acceptance.{refusalFor, fares, kindsIn, memoryIn, figureIn, isThere, Accepting, stops, strays, overflows, passes}
-use Rattle.order.proofs.Never.{never}
 
 -- the first of a list that fails a test, if there is one
 pub data First : Type 0 where

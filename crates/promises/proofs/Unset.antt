@@ -6,7 +6,7 @@ use native.Mathlib.Omega.{arith}
 use lib.Dec.{leb}
 use lib.IntN.{ℤ}
 use Rattle.terms.specs.Choice.{pick}
-use Rattle.terms.proofs.Choice.{pick-case}
+use Rattle.terms.proofs.Choice.{pick-case, never}
 use Rattle.kinds.specs.Kinds.{kindOf}
 use Rattle.place.specs.declared.Place.{Place}
 use Rattle.switches.specs.Switches.{bl, sr, pl, al}
@@ -16,9 +16,6 @@ use Rattle.analog.specs.Analog.{cp, og, zc, st}
 use Rattle.rules.specs.Rules.{Rule, rules, ruleOf}
 use Rattle.promises.specs.EachBlock.{counts}
 use Rattle.promises.proofs.EachKind.{Each, _also_, done, of-each}
-
-never : {A : Type 0} → true ≡ false → A
-never e = let z : _≡_ {A = ℕ} 0 1 = cc in absurd (omega arith)
 
 module _ (pin : ℕ → Bool) (word : ℕ → ℤ) (set : ℕ → ℕ) (e : ℕ) (p : Place) where
   pub rule-pins : ruleOf 0 pin word set e p .pins ≡ p .pins

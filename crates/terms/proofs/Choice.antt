@@ -1,4 +1,4 @@
--- What holds of both ways of a choice holds of the choice; two tests that both come out; and a test of every element, on a walk from the front.
+-- What holds of both ways of a choice holds of the choice; what is on is not off; two tests that both come out; and a test of every element, on a walk from the front.
 use mathlib.Core.Path.{_≡_, refl, sym}
 use mathlib.Core.Bool.{Bool, true, false, _&&_}
 use mathlib.Core.List.{List}
@@ -19,9 +19,12 @@ pub when-case :
 when-case P true f g x y = x refl
 when-case P false f g x y = y refl
 
+pub never : {A : Type 0} → true ≡ false → A
+never e = let z : _≡_ {A = ℕ} 0 1 = cc in absurd (omega arith)
+
 pub both : (a b : Bool) → (a && b) ≡ true → (a ≡ true) × (b ≡ true)
 both true b e = (refl, e)
-both false b e = let z : _≡_ {A = ℕ} 0 1 = cc in absurd (omega arith)
+both false b e = never (sym e)
 
 module _ {A : Type 0} (test : A → Bool) (xs : List A) (i : ℕ) where
   pub every-pass : (d : A) → i < length xs → test (getD xs i d) ≡ true → every test (drop (i + 1) xs) ≡ every test (drop i xs)
