@@ -4,7 +4,7 @@ use text::put_number;
 ghost use Prim.Native.Nat.{_+_, _≤_};
 ghost use lib.ListN.{length};
 ghost use Rattle.text.specs.Text.{Put};
-ghost use Rattle.lines.specs.Lines.{lineBytes, lineWith, refusedLine};
+ghost use Rattle.lines.specs.Lines.{lineBytes, lineWith, refusedLine, badScan, badProgram};
 
 // Puts the line of a scan.
 pub fn write_line(
@@ -33,4 +33,20 @@ pub fn write_refused(out: &mut [u8], at: usize, n: u8, place: usize) -> usize
     let b = put_number(out, a, n as u64, b' ');
     let c = put(out, b, b"at ");
     put_number(out, c, place as u64, b'\n')
+}
+
+// Puts `bad scan`.
+pub fn write_bad_scan(out: &mut [u8], at: usize) -> usize
+    requires { ⌜ at + lineBytes ≤ length (now out) ⌝ }
+    ensures { λ r. ⌜ Put badScan (now (out .entry)) at (now (out .exit)) r ⌝ }
+{
+    put(out, at, b"bad scan\n")
+}
+
+// Puts `bad program`.
+pub fn write_bad_program(out: &mut [u8], at: usize) -> usize
+    requires { ⌜ at + lineBytes ≤ length (now out) ⌝ }
+    ensures { λ r. ⌜ Put badProgram (now (out .entry)) at (now (out .exit)) r ⌝ }
+{
+    put(out, at, b"bad program\n")
 }

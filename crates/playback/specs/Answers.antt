@@ -1,25 +1,40 @@
--- What the functions of this crate answer and write, in terms of what is told and opened.
+-- What the functions of this crate answer and write, in terms of turns and openings.
 use mathlib.Core.Path.{_≡_}
-use mathlib.Core.List.{List}
-use Prim.Native.Nat.{ℕ, _+_}
+use mathlib.Core.List.{List, []}
+use Prim.Native.Nat.{ℕ}
 use lib.ListN.{length}
 use lib.Seq.{sets}
-use Rattle.playback.specs.Playback.{Told, Opening}
-use Rattle.playback.specs.declared.Stepped.{Stepped}
+use Rattle.image.specs.declared.State.{State}
+use Rattle.calls.specs.declared.Scanned.{Scanned}
+use Rattle.calls.specs.Calls.{refusedScan}
+use Rattle.playback.specs.Playback.{Turn, runs, refuses, fails, waits, Opening, opens, refusesIt, failsIt, waitsIt}
+use Rattle.playback.specs.declared.Turning.{Turning}
+use Rattle.playback.specs.declared.Turning.the-variants.{Runs, Refuses, Fails, Waits}
+use Rattle.playback.specs.declared.Turned.{Turned}
 use Rattle.playback.specs.declared.Opened.{Opened}
+use Rattle.playback.specs.declared.Opened.the-variants.{Opens, Refused as OpenRefused, Bad as OpenBad, Waits as OpenWaits}
 
--- a scan told of, its text written from `to` on
-abbrev pub steppedIn : ℕ → Told → Stepped
-steppedIn to t = record { state = t .state; next = t .next; to = to + length (t .text); more = t .more }
+-- a turn from a place on; one that is not run leaves the state and the place
+abbrev pub turned : State → ℕ → Turn → Turned
+turned st at (runs x a next) = record { turning = Runs; answer = a; next = next }
+turned st at (refuses a) = record { turning = Refuses; answer = a; next = at }
+turned st at fails = record { turning = Fails; answer = refusedScan st 0 0; next = at }
+turned st at waits = record { turning = Waits; answer = refusedScan st 0 0; next = at }
 
--- the text of a scan told of was written over l from `to` on, and r is the answer
-pub record Wrote (t : Told) (l : List ℕ) (to : ℕ) (m : List ℕ) (r : Stepped) : Type 0 where
-  pub bytes : m ≡ sets l to (t .text)
-  pub answer : r ≡ steppedIn to t
+-- an opening, whose program is copied out if it is accepted
+abbrev pub openedAs : Opening → Opened
+openedAs (opens program next) = Opens (length program) next
+openedAs (refusesIt n at) = OpenRefused n at
+openedAs failsIt = OpenBad
+openedAs waitsIt = OpenWaits
 
--- what comes before the scans: its program was written over p from the front, which made it q, its text over l, which made it m, and r is the
--- answer
-pub record Opens (o : Opening) (p q l m : List ℕ) (r : Opened) : Type 0 where
-  pub bytes : m ≡ sets l 0 (o .text)
-  pub program : q ≡ sets p 0 (o .program)
-  pub answer : r ≡ record { size = length (o .program); next = o .next; to = length (o .text); more = o .more }
+abbrev pub copied : Opening → List ℕ
+copied (opens program next) = program
+copied (refusesIt n at) = []
+copied failsIt = []
+copied waitsIt = []
+
+-- p was made q, and r is the answer
+pub record OpenedIn (o : Opening) (p q : List ℕ) (r : Opened) : Type 0 where
+  pub program : q ≡ sets p 0 (copied o)
+  pub answer : r ≡ openedAs o

@@ -1,81 +1,122 @@
--- Document 01, "The listing program": what scanlist prints, bytes for bytes.
-use mathlib.Core.Bool.{Bool, true, false}
-use mathlib.Core.List.{List, [], _++_}
+-- Document 01, "The listing program": what a recording comes to, its program and then scan by scan. What scanlist prints is one reading of that.
+-- A recording comes in windows: there are bytes at hand, and others may follow.
+use mathlib.Core.List.{List, [], _∷_, _++_}
 use Prim.Native.Nat.{ℕ, zero, suc, _+_}
 use lib.ListN.{length, take, drop}
-use lib.Dec.{ltb, eqb}
-use Rattle.terms.specs.Choice.{pick, when}
-use Rattle.wire.specs.Reading.{Read, got, fault}
-use Rattle.lines.specs.Lines.{lineWith, refusedLine, badScan, badProgram}
+use lib.Dec.{eqb}
+use Rattle.terms.specs.Choice.{pick}
 use Rattle.program.specs.Acceptance.{accepted}
 use Rattle.image.specs.declared.State.{State}
 use Rattle.image.specs.State.{freshState}
 use Rattle.scanning.specs.Scan.{Inputs}
 use Rattle.calls.specs.declared.Scanned.{Scanned}
 use Rattle.calls.specs.Calls.{scanOf}
-use Rattle.recording.specs.Recording.{lengthIn, scanAt}
+use Rattle.recording.specs.Recording.{Part, whole, bad, cut, lengthIn, scanAt}
 
--- "Per scan it prints time, steps, held, missed"
-abbrev pub lineOf : Scanned → List ℕ
-lineOf a = lineWith (a .state .time) (a .steps) (a .state .journal .held) (a .state .journal .missed)
+-- What a scan came to, or the program: the scan was run, with its inputs and its answer; "A refusal"; "A scan cut, malformed or out of range"; "A length
+-- malformed or over 16,384, or too few bytes". Each of the last three "ends the run".
+pub data Came : Type 0 where
+  ran : Inputs → Scanned → Came
+  refused : ℕ → ℕ → Came
+  badScan : Came
+  badProgram : Came
 
--- What the scan at a place of a recording comes to: what is printed, the state and the place after it, and whether the run goes on.
-pub record Told : Type 0 where
-  pub text : List ℕ
-  pub state : State
-  pub next : ℕ
-  pub more : Bool
+-- how far a recording has come: its program is not all there yet; its scans are run, by that program and in a state; the run has ended
+pub data Stage : Type 0 where
+  opening : Stage
+  playing : List ℕ → State → Stage
+  over : Stage
 
-abbrev pub ended : List ℕ → State → ℕ → Told
-ended text st at = record { text = text; state = st; next = at; more = false }
+-- what bytes at hand come to, how far the recording has come with them, and which of them are left to stand before those that follow
+pub record Fed : Type 0 where
+  pub came : List Came
+  pub stage : Stage
+  pub left : List ℕ
 
--- "A refusal ..: `refused N at P`."
-unfoldable pub toldBy : Scanned → ℕ → ℕ → Told
-toldBy a at next =
-    pick (eqb (a .refusal) 0)
-    (record { text = lineOf a; state = a .state; next = next; more = true })
-    (ended (refusedLine (a .refusal) (a .place)) (a .state) at)
+abbrev pub pausing : Stage → List ℕ → Fed
+pausing g l = record { came = []; stage = g; left = l }
 
--- "A scan cut, malformed or out of range: `bad scan`."
-abbrev pub toldIn : List ℕ → State → ℕ → Read Inputs → Told
-toldIn program st at (got x next) = toldBy (scanOf program x st) at next
-toldIn program st at (fault n from) = ended badScan st at
+abbrev pub ending : Came → Fed
+ending c = record { came = c ∷ []; stage = over; left = [] }
 
--- a recording that ends before a scan is at its end
-unfoldable pub toldAt : List ℕ → State → List ℕ → ℕ → Told
-toldAt program st s at = pick (ltb at (length s)) (toldIn program st at (scanAt s at)) (ended [] st at)
+abbrev pub before : Came → Fed → Fed
+before c f = record { came = c ∷ f .came; stage = f .stage; left = f .left }
 
--- what is printed for the scans from a place on, of which there are at most n: "Each ends the run."
-unfoldable pub linesAt : ℕ → List ℕ → State → List ℕ → ℕ → List ℕ
-linesAt zero program st s at = []
-linesAt (suc n) program st s at =
-    let t = toldAt program st s at in
-    t .text ++ when (t .more) (λ _. linesAt n program (t .state) s (t .next)) (λ _. [])
+-- ---- scans
 
--- What comes before the scans: what is printed, the program, the place after it, and whether the run goes on.
-pub record Opening : Type 0 where
-  pub text : List ℕ
-  pub program : List ℕ
-  pub next : ℕ
-  pub more : Bool
+-- the turn of a scan: it is run, up to the place after it; it is refused; it is bad; or it is not all there
+pub data Turn : Type 0 where
+  runs : Inputs → Scanned → ℕ → Turn
+  refuses : Scanned → Turn
+  fails : Turn
+  waits : Turn
 
--- "A refusal (the program's own before any scan is read): `refused N at P`."
+unfoldable pub turnBy : Inputs → ℕ → Scanned → Turn
+turnBy x next a = pick (eqb (a .refusal) 0) (runs x a next) (refuses a)
+
+abbrev pub turnOf : List ℕ → State → Part Inputs → Turn
+turnOf program st (whole x next) = turnBy x next (scanOf program x st)
+turnOf program st bad = fails
+turnOf program st cut = waits
+
+-- and what comes of it, where `rest` is what comes of the scans after it
+abbrev pub playedBy : List ℕ → State → List ℕ → (State → ℕ → Fed) → Turn → Fed
+playedBy program st l rest (runs x a next) = before (ran x a) (rest (a .state) next)
+playedBy program st l rest (refuses a) = ending (refused (a .refusal) (a .place))
+playedBy program st l rest fails = ending badScan
+playedBy program st l rest waits = pausing (playing program st) l
+
+-- the scans at hand, of which there are at most n
+unfoldable pub playedIn : ℕ → List ℕ → State → List ℕ → Fed
+playedIn zero program st l = pausing (playing program st) l
+playedIn (suc n) program st l = playedBy program st l (λ s next. playedIn n program s (drop next l)) (turnOf program st (scanAt l 0))
+
+-- all of them: a scan takes bytes, so there are no more of them than bytes
+unfoldable pub played : List ℕ → State → List ℕ → Fed
+played program st l = playedIn (length l) program st l
+
+-- ---- the program
+
+-- it is accepted, and its scans start at a place; it is refused; its length is bad; or it is not all there
+pub data Opening : Type 0 where
+  opens : List ℕ → ℕ → Opening
+  refusesIt : ℕ → ℕ → Opening
+  failsIt : Opening
+  waitsIt : Opening
+
 unfoldable pub openedBy : List ℕ → ℕ → Opening
 openedBy program next =
-    pick (eqb (accepted program .refusal) 0)
-    (record { text = []; program = program; next = next; more = true })
-    (record { text = refusedLine (accepted program .refusal) (accepted program .place); program = program; next = next; more = false })
+    pick (eqb (accepted program .refusal) 0) (opens program next) (refusesIt (accepted program .refusal) (accepted program .place))
 
--- "`bad program`"
-abbrev pub openedIn : List ℕ → Read ℕ → Opening
-openedIn s (got n at) = openedBy (take n (drop at s)) (at + n)
-openedIn s (fault n at) = record { text = badProgram; program = []; next = 0; more = false }
+abbrev pub openedOf : List ℕ → Part ℕ → Opening
+openedOf l (whole n at) = openedBy (take n (drop at l)) (at + n)
+openedOf l bad = failsIt
+openedOf l cut = waitsIt
 
-unfoldable pub opening : List ℕ → Opening
-opening s = openedIn s (lengthIn s)
+unfoldable pub openingIn : List ℕ → Opening
+openingIn l = openedOf l (lengthIn l)
 
--- "scanlist reads standard input: program length, program, then scans"; a scan takes bytes, so there are fewer scans than bytes
-unfoldable pub printed : List ℕ → List ℕ
-printed s =
-    let o = opening s in
-    o .text ++ when (o .more) (λ _. linesAt (length s) (o .program) freshState s (o .next)) (λ _. [])
+-- "A refusal (the program's own before any scan is read)"
+abbrev pub openedTo : List ℕ → Opening → Fed
+openedTo l (opens program next) = played program freshState (drop next l)
+openedTo l (refusesIt n at) = ending (refused n at)
+openedTo l failsIt = ending badProgram
+openedTo l waitsIt = pausing opening l
+
+-- ---- a recording
+
+unfoldable pub fed : Stage → List ℕ → Fed
+fed opening l = openedTo l (openingIn l)
+fed (playing program st) l = played program st l
+fed over l = pausing over []
+
+-- where no bytes follow: "too few bytes" are no program, and what is left of a scan is "cut"
+abbrev pub finished : Stage → List ℕ → List Came
+finished opening l = badProgram ∷ []
+finished (playing program st) [] = []
+finished (playing program st) (b ∷ l) = badScan ∷ []
+finished over l = []
+
+-- what a whole recording comes to
+unfoldable pub course : List ℕ → List Came
+course s = let f = fed opening s in f .came ++ finished (f .stage) (f .left)

@@ -1,120 +1,111 @@
-// What is printed for a recording: the opening of its program, and a line for each scan.
+// What a recording comes to: its program, and its scans one after the other. Nothing is printed here.
 use calls::Scanned;
 use image::State;
 use recording::Head;
+use recording::Standing;
 use text::put;
-ghost use Prim.Native.Nat.{_+_, _≤_};
+ghost use mathlib.Core.Path.{_≡_};
+ghost use Prim.Native.Nat.{_≤_};
 ghost use lib.ListN.{length};
-ghost use Rattle.lines.specs.Lines.{lineBytes};
-ghost use Rattle.recording.specs.Recording.{programBytes};
-ghost use Rattle.playback.specs.Playback.{toldBy, toldAt, opening};
-ghost use Rattle.playback.specs.Answers.{Wrote, Opens};
+ghost use Rattle.calls.specs.Calls.{refusedScan};
+ghost use Rattle.recording.specs.Recording.{programBytes, scanAt};
+ghost use Rattle.playback.specs.Playback.{turnOf, openingIn};
+ghost use Rattle.playback.specs.Answers.{turned, OpenedIn};
 
-// The state and the place after a scan of a recording, the place after what was put, and whether the run goes on.
-pub struct Stepped {
-    pub state: State,
+// Whether a scan was run, was refused, is bad, or is not all there.
+pub enum Turning {
+    Runs,
+    Refuses,
+    Fails,
+    Waits,
+}
+
+// The turn of a scan: its answer, if it was run or refused, and the place after it, if it was run.
+pub struct Turned {
+    pub turning: Turning,
+    pub answer: Scanned,
     pub next: usize,
-    pub to: usize,
-    pub more: bool,
 }
 
-// Tells of a scan that was run, from `at` to `next`.
-fn tell(a: Scanned, at: usize, next: usize, out: &mut [u8], to: usize) -> Stepped
-    requires { ⌜ to + lineBytes ≤ length (now out) ⌝ }
-    ensures { λ r. ⌜ Wrote (toldBy a at next) (now (out .entry)) to (now (out .exit)) r ⌝ }
+// A scan that was not run.
+fn no_answer(state: State) -> Scanned
+    ensures { λ r. ⌜ r ≡ refusedScan state 0 0 ⌝ }
 {
-    let state = a.state;
-    if a.refusal != 0 {
-        let end = lines::write_refused(out, to, a.refusal, a.place);
-        return Stepped {
-            state,
-            next: at,
-            to: end,
-            more: false,
-        };
-    }
-    let j = state.journal;
-    let end = lines::write_line(out, to, state.time, a.steps, j.held, j.missed);
-    Stepped {
+    Scanned {
         state,
-        next,
-        to: end,
-        more: true,
+        refusal: 0,
+        place: 0,
+        alarms: 0,
+        steps: 0,
+        rises: 0,
     }
 }
 
-// One scan of a recording, and what is printed for it.
-pub fn step(s: &[u8], at: usize, program: &[u8], state: State, out: &mut [u8], to: usize) -> Stepped
-    requires { ⌜ to + lineBytes ≤ length (now out) ⌝ }
-    ensures { λ r. ⌜ Wrote (toldAt (now (program .entry)) state (now (s .entry)) at) (now (out .entry)) to (now (out .exit)) r ⌝ }
+// The turn of the scan at a place.
+pub fn next_scan(s: &[u8], at: usize, program: &[u8], state: State) -> Turned
+    ensures { λ r. ⌜ r ≡ turned state at (turnOf (now (program .entry)) state (scanAt (now (s .entry)) at)) ⌝ }
 {
-    if s.len() <= at {
-        return Stepped {
-            state,
-            next: at,
-            to,
-            more: false,
-        };
-    }
     let r = recording::read_scan(s, at);
-    if !r.good {
-        let end = put(out, to, b"bad scan\n");
-        return Stepped {
-            state,
-            next: at,
-            to: end,
-            more: false,
-        };
+    let standing = r.standing;
+    match standing {
+        Standing::Whole => {}
+        Standing::Bad => {
+            return Turned {
+                turning: Turning::Fails,
+                answer: no_answer(state),
+                next: at,
+            };
+        }
+        Standing::Cut => {
+            return Turned {
+                turning: Turning::Waits,
+                answer: no_answer(state),
+                next: at,
+            };
+        }
     }
     let words = r.words;
     let a = hall::scan(program, state, r.elapsed, r.bits, words);
-    tell(a, at, r.next, out, to)
+    if a.refusal != 0 {
+        return Turned {
+            turning: Turning::Refuses,
+            answer: a,
+            next: at,
+        };
+    }
+    Turned {
+        turning: Turning::Runs,
+        answer: a,
+        next: r.next,
+    }
 }
 
-// What comes before the scans: the size of the program, the place after it, the place after what was put, and whether the run
-// goes on.
-pub struct Opened {
-    pub size: usize,
-    pub next: usize,
-    pub to: usize,
-    pub more: bool,
+// What comes before the scans: the size of a program that is accepted and the place after it; a refusal; no program; or not all
+// of it.
+pub enum Opened {
+    Opens(usize, usize),
+    Refused(u8, usize),
+    Bad,
+    Waits,
 }
 
-// Opens a recording: copies its program out and accepts it.
-pub fn open_recording(s: &[u8], program: &mut [u8], out: &mut [u8]) -> Opened
-    requires { ⌜ (programBytes ≤ length (now program)) × (lineBytes ≤ length (now out)) ⌝ }
-    ensures { λ r. ⌜ Opens (opening (now (s .entry))) (now (program .entry)) (now (program .exit)) (now (out .entry)) (now (out .exit)) r ⌝ }
+// Opens a recording: accepts its program, and copies it out.
+pub fn open_recording(s: &[u8], program: &mut [u8]) -> Opened
+    requires { ⌜ programBytes ≤ length (now program) ⌝ }
+    ensures { λ r. ⌜ OpenedIn (openingIn (now (s .entry))) (now (program .entry)) (now (program .exit)) r ⌝ }
 {
     let h = recording::read_head(s);
     match h {
-        Head::Bad => {
-            let to = put(out, 0, b"bad program\n");
-            Opened {
-                size: 0,
-                next: 0,
-                to,
-                more: false,
-            }
-        }
+        Head::Bad => Opened::Bad,
+        Head::Cut => Opened::Waits,
         Head::Program(size, at) => {
             let next = at + size;
-            put(program, 0, &s[at..next]);
             let a = program::accept(&s[at..next]);
             if a.refusal != 0 {
-                let to = lines::write_refused(out, 0, a.refusal, a.place);
-                return Opened {
-                    size,
-                    next,
-                    to,
-                    more: false,
-                };
+                return Opened::Refused(a.refusal, a.place);
             }
-            Opened {
-                size,
-                next,
-                to: 0,
-                more: true,
-            }
+            put(program, 0, &s[at..next]);
+            Opened::Opens(size, next)
         }
     }
 }

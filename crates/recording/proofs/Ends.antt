@@ -1,44 +1,74 @@
--- Laws of where a scan ends: a number takes at most three bytes, and a scan that starts within the data ends within it. Assumes nothing.
-use Prim.Native.Nat.{ℕ, zero, suc, _+_, _≤_, _<_}
-use mathlib.Core.Path.{_≡_, refl}
-use mathlib.Core.List.{List}
+-- Laws of where a scan ends: it takes at least eleven bytes, all of them within the data; and where one is cut, fewer than its most bytes are there.
+-- Assumes nothing.
+use Prim.Native.Nat.{ℕ, zero, suc, _+_, _*_, _≤_, _<_}
+use mathlib.Core.Path.{_≡_, refl, subst}
+use mathlib.Core.List.{List, _∷_}
+use native.Mathlib.Omega.{arith}
 use lib.Dec.{ltb}
 use lib.ListN.{length}
 use Rattle.terms.proofs.Choice.{pick-case}
 use Rattle.wire.specs.declared.Num.{Num}
 use Rattle.wire.specs.declared.Num.the-variants.{Got, Bad, Cut}
 use Rattle.wire.specs.Number.{numberAt}
-use Rattle.wire.specs.Reading.{Read, got, fault, andThen}
+use Rattle.wire.specs.Facts.{IsCut, cut-short}
 use Rattle.wire.proofs.Laws.{takes}
-use Rattle.recording.specs.Recording.{shortOf, shortsAt, scanAt}
+use Rattle.wire.proofs.Reasons.{cut-exactly}
+use Rattle.scanning.specs.Scan.{Inputs}
+use Rattle.recording.specs.Recording.{Part, whole, bad, cut, andNext, shortOf, shortsAt, inputsIn, scanAt, leastBytes}
 
--- a number stands within the data
+-- a number stands within the data, and one that is cut is near its end
 pub number-within : (s : List ℕ) (at : ℕ) {v next : ℕ} → numberAt s at ≡ Got v next → (at < next) × ((next ≤ at + 3) × (next ≤ length s))
 unfolding numberAt
 number-within s at {v} {next} e = takes 3 0 s at v next e
 
--- what stands at a place ends at n at the latest
-abbrev pub Ends : {A : Type 0} → ℕ → Read A → Type 0
-Ends n (got a next) = next ≤ n
-Ends n (fault k at) = Unit {0}
+near : (s : List ℕ) (at : ℕ) → IsCut 3 s at → length s < at + 3
+near s at (cut-short n l e h) = omega arith
 
-ends-then :
-    {A B : Type 0} (n : ℕ) (r : Read A) (f : A → ℕ → Read B) → Ends n r → ((a : A) (at : ℕ) → at ≤ n → Ends n (f a at)) → Ends n (andThen r f)
-ends-then n (got a at) f h g = g a at h
-ends-then n (fault k at) f h g = tt
+pub number-near : (s : List ℕ) (at : ℕ) → numberAt s at ≡ Cut → length s < at + 3
+unfolding numberAt
+number-near s at e = near s at (cut-exactly 3 s at .0 e)
 
-pub short-ends : (n at : ℕ) (r : Num) → ((v next : ℕ) → r ≡ Got v next → next ≤ n) → Ends n (shortOf at r)
-short-ends n at (Got v next) h = pick-case (λ (p : Read ℕ). Ends n p) (ltb v 65536) (λ _. h v next refl) (λ _. tt)
-short-ends n at Bad h = tt
-short-ends n at Cut h = tt
+-- what takes n numbers from a place on, or is cut there
+module _ (s : List ℕ) where
+  abbrev pub Takes : {A : Type 0} → ℕ → ℕ → Part A → Type 0
+  Takes n at (whole a next) = (at + n ≤ next) × ((next ≤ at + n * 3) × (next ≤ length s))
+  Takes n at bad = Unit {0}
+  Takes n at cut = length s < at + n * 3
 
-shorts-end : (n : ℕ) (s : List ℕ) (at : ℕ) → at ≤ length s → Ends (length s) (shortsAt n s at)
-unfolding shortsAt
-shorts-end zero s at h = h
-shorts-end (suc n) s at h =
-    ends-then (length s) (shortOf at (numberAt s at)) _ (short-ends (length s) at (numberAt s at) (λ v next e. number-within s at e .1 .1))
-    (λ v next k. ends-then (length s) (shortsAt n s next) _ (shorts-end n s next k) (λ vs end l. l))
+  takes-then :
+      {A B : Type 0} (n m at : ℕ) (r : Part A) (f : A → ℕ → Part B) → Takes n at r → ((a : A) (next : ℕ) → next ≤ length s → Takes m next (f a next)) →
+      Takes (n + m) at (andNext r f)
+  takes-then n m at (whole a next) f h g = onward (f a next) (g a next (h .1 .1))
+    where
+      onward : {B : Type 0} (r : Part B) → Takes m next r → Takes (n + m) at r
+      onward (whole b end) k = (omega arith, (omega arith, k .1 .1))
+      onward bad k = tt
+      onward cut k = omega arith
+  takes-then n m at bad f h g = tt
+  takes-then n m at cut f h g = omega arith
 
-pub scan-ends : (s : List ℕ) (at : ℕ) → at ≤ length s → Ends (length s) (scanAt s at)
-unfolding scanAt
-scan-ends s at h = ends-then (length s) (shortsAt 11 s at) _ (shorts-end 11 s at h) (λ vs next k. k)
+  short-takes : (at : ℕ) (r : Num) → numberAt s at ≡ r → Takes 1 at (shortOf r)
+  short-takes at (Got v next) e =
+      let t = number-within s at e in
+      pick-case (Takes 1 at) (ltb v 65536) (λ _. (omega arith, (t .1 .0, t .1 .1))) (λ _. tt)
+  short-takes at Bad e = tt
+  short-takes at Cut e = number-near s at e
+
+  -- what is made of it takes as much
+  takes-map : {A B : Type 0} (c : A → B) (n at : ℕ) (r : Part A) → Takes n at r → Takes n at (andNext r (λ a end. whole (c a) end))
+  takes-map c n at (whole a end) k = k
+  takes-map c n at bad k = k
+  takes-map c n at cut k = k
+
+  shorts-take : (n at : ℕ) → at ≤ length s → Takes n at (shortsAt n s at)
+  unfolding shortsAt
+  shorts-take zero at h = (omega arith, (omega arith, h))
+  shorts-take (suc n) at h =
+      let z : suc n ≡ 1 + n = omega arith in
+      rw z
+      (takes-then 1 n at (shortOf (numberAt s at)) _ (short-takes at (numberAt s at) refl)
+      (λ v next k. takes-map (_∷_ v) n next (shortsAt n s next) (shorts-take n next k)))
+
+  pub scan-takes : (at : ℕ) → at ≤ length s → Takes leastBytes at (scanAt s at)
+  unfolding scanAt
+  scan-takes at h = takes-map inputsIn 11 at (shortsAt 11 s at) (shorts-take 11 at h)

@@ -1,7 +1,6 @@
 pub mod Fronts
 pub mod Ends
 pub mod Heads
-pub mod Scans
-pub mod Tests
-pub mod Cuts
+pub mod Prefixes
 pub mod Moves
+pub mod Scans

@@ -1,6 +1,6 @@
 -- Laws of scans: one more number of a scan stored, and what a scan's numbers come to. Assumes nothing.
 use Prim.Native.Nat.{ℕ, zero, suc, _+_, _*_, _≤_, _<_}
-use mathlib.Core.Path.{_≡_, refl, sym, _∙_}
+use mathlib.Core.Path.{_≡_, refl, sym, ap, subst, _∙_}
 use mathlib.Core.Bool.{true, false}
 use mathlib.Core.List.{List, [], _∷_, map, map-append, append-nil}
 use native.Mathlib.Numerals.{add-one}
@@ -10,47 +10,57 @@ use lib.ListN.{length, getD, set, take, drop, replicate, length-drop, drop-of-le
 use lib.Seq.{sets, sets-eq, take-suc, getD-drop}
 use Rattle.terms.specs.Words.{signed}
 use Rattle.wire.specs.Number.{numberAt}
-use Rattle.wire.specs.Reading.{Read, got, fault, andThen}
-use Rattle.wire.proofs.Gives.{Long, long-cons, gives-after}
 use Rattle.scanning.specs.Scan.{Inputs, inputs}
-use Rattle.recording.specs.Recording.{shortOf, shortsAt, inputsIn, scanAt}
-use Rattle.recording.specs.Answers.{shortIn, brokenShorts, shortsFrom, shortsIn, brokenScan, recordedIn}
-use Rattle.recording.specs.declared.Short.the-variants.{Got as ShortGot, Broken as ShortBroken}
+use Rattle.recording.specs.Recording.{Part, whole, bad, cut, andNext, shortOf, shortsAt, inputsIn, scanAt}
+use Rattle.recording.specs.Answers.{shortIn, noShorts, shortsFrom, shortsIn, noScan, recordedIn}
+use Rattle.recording.specs.declared.Short.the-variants.{Got as ShortGot, Bad as ShortBad, Cut as ShortCut}
+use Rattle.recording.specs.declared.Standing.{Standing}
+use Rattle.recording.specs.declared.Standing.the-variants.{Whole, Bad, Cut}
 use Rattle.recording.specs.declared.Shorts.{Shorts}
 use Rattle.recording.specs.declared.Recorded.{Recorded}
 use Rattle.recording.proofs.Fronts.{grown}
 
 -- one number before the others
 shorts-cons :
-    (i : ℕ) (l : List ℕ) (v : ℕ) (r : Read (List ℕ)) →
-    shortsFrom i l (andThen r (λ vs end. got (v ∷ vs) end)) ≡ shortsFrom (i + 1) (set l i v) r
-shorts-cons i l v (got vs end) = rw add-one
-shorts-cons i l v (fault n at) = refl
+    (i : ℕ) (l : List ℕ) (v : ℕ) (r : Part (List ℕ)) →
+    shortsFrom i l (andNext r (λ vs end. whole (v ∷ vs) end)) ≡ shortsFrom (i + 1) (set l i v) r
+shorts-cons i l v (whole vs end) = rw add-one
+shorts-cons i l v bad = refl
+shorts-cons i l v cut = refl
 
 shorts-then :
-    (i : ℕ) (l : List ℕ) (r : Read ℕ) (f : ℕ → Read (List ℕ)) {v next : ℕ} → shortIn r ≡ ShortGot v next →
-    shortsFrom i l (andThen r (λ v at. andThen (f at) (λ vs end. got (v ∷ vs) end))) ≡ shortsFrom (i + 1) (set l i v) (f next)
-shorts-then i l (got w at) f {v} {next} e =
+    (i : ℕ) (l : List ℕ) (r : Part ℕ) (f : ℕ → Part (List ℕ)) {v next : ℕ} → shortIn r ≡ ShortGot v next →
+    shortsFrom i l (andNext r (λ v at. andNext (f at) (λ vs end. whole (v ∷ vs) end))) ≡ shortsFrom (i + 1) (set l i v) (f next)
+shorts-then i l (whole w at) f {v} {next} e =
     let ev : w ≡ v = cc in
     let en : at ≡ next = cc in
     shorts-cons i l w (f at) ∙ rw (ev, en)
-shorts-then i l (fault n at) f e = let z : _≡_ {A = ℕ} 0 1 = cc in absurd (omega arith)
+shorts-then i l bad f e = let z : _≡_ {A = ℕ} 0 1 = cc in absurd (omega arith)
+shorts-then i l cut f e = let z : _≡_ {A = ℕ} 0 1 = cc in absurd (omega arith)
 
-shorts-stop :
-    (i : ℕ) (l : List ℕ) (r : Read ℕ) (f : ℕ → ℕ → Read (List ℕ)) → shortIn r ≡ ShortBroken →
-    shortsFrom i l (andThen r f) ≡ brokenShorts
-shorts-stop i l (got w at) f e = let z : _≡_ {A = ℕ} 0 1 = cc in absurd (omega arith)
-shorts-stop i l (fault n at) f e = refl
+shorts-bad : (i : ℕ) (l : List ℕ) (r : Part ℕ) (f : ℕ → ℕ → Part (List ℕ)) → shortIn r ≡ ShortBad → shortsFrom i l (andNext r f) ≡ noShorts Bad
+shorts-bad i l (whole w at) f e = let z : _≡_ {A = ℕ} 0 1 = cc in absurd (omega arith)
+shorts-bad i l bad f e = refl
+shorts-bad i l cut f e = let z : _≡_ {A = ℕ} 0 1 = cc in absurd (omega arith)
+
+shorts-cut : (i : ℕ) (l : List ℕ) (r : Part ℕ) (f : ℕ → ℕ → Part (List ℕ)) → shortIn r ≡ ShortCut → shortsFrom i l (andNext r f) ≡ noShorts Cut
+shorts-cut i l (whole w at) f e = let z : _≡_ {A = ℕ} 0 1 = cc in absurd (omega arith)
+shorts-cut i l bad f e = let z : _≡_ {A = ℕ} 0 1 = cc in absurd (omega arith)
+shorts-cut i l cut f e = refl
 
 module _ (n i : ℕ) (l s : List ℕ) (at : ℕ) where
-  pub shorts-got : {v next : ℕ} → shortIn (shortOf at (numberAt s at)) ≡ ShortGot v next
+  pub shorts-got : {v next : ℕ} → shortIn (shortOf (numberAt s at)) ≡ ShortGot v next
       → shortsFrom i l (shortsAt (suc n) s at) ≡ shortsFrom (i + 1) (set l i v) (shortsAt n s next)
   unfolding shortsAt
-  shorts-got e = shorts-then i l (shortOf at (numberAt s at)) (λ next. shortsAt n s next) e
+  shorts-got e = shorts-then i l (shortOf (numberAt s at)) (λ next. shortsAt n s next) e
 
-  pub shorts-broken : shortIn (shortOf at (numberAt s at)) ≡ ShortBroken → shortsFrom i l (shortsAt (suc n) s at) ≡ brokenShorts
+  pub shorts-broken : shortIn (shortOf (numberAt s at)) ≡ ShortBad → shortsFrom i l (shortsAt (suc n) s at) ≡ noShorts Bad
   unfolding shortsAt
-  shorts-broken e = shorts-stop i l (shortOf at (numberAt s at)) _ e
+  shorts-broken e = shorts-bad i l (shortOf (numberAt s at)) _ e
+
+  pub shorts-short : shortIn (shortOf (numberAt s at)) ≡ ShortCut → shortsFrom i l (shortsAt (suc n) s at) ≡ noShorts Cut
+  unfolding shortsAt
+  shorts-short e = shorts-cut i l (shortOf (numberAt s at)) _ e
 
 -- the words of a scan, one more each turn
 pub words-turn :
@@ -63,11 +73,26 @@ words-turn vs w i h k e =
     rw (add-one i, take-suc (drop 3 vs) i 0 here, split, getD-drop 3 vs i 0, at) (grown w _ i _ h e)
 
 -- as many numbers as were asked for
+abbrev Long : ℕ → Part (List ℕ) → Type 0
+Long n (whole vs next) = length vs ≡ n
+Long n bad = Unit {0}
+Long n cut = Unit {0}
+
+long-cons : (n v : ℕ) (r : Part (List ℕ)) → Long n r → Long (suc n) (andNext r (λ vs end. whole (v ∷ vs) end))
+long-cons n v (whole vs next) e = ap suc e
+long-cons n v bad e = tt
+long-cons n v cut e = tt
+
+long-after : (n : ℕ) (r : Part ℕ) (f : ℕ → ℕ → Part (List ℕ)) → ((v next : ℕ) → Long n (f v next)) → Long n (andNext r f)
+long-after n (whole v next) f h = h v next
+long-after n bad f h = tt
+long-after n cut f h = tt
+
 shorts-many : (n : ℕ) (s : List ℕ) (at : ℕ) → Long n (shortsAt n s at)
 unfolding shortsAt
 shorts-many zero s at = refl
 shorts-many (suc n) s at =
-    gives-after (λ vs. length vs ≡ suc n) (shortOf at (numberAt s at)) _ (λ v next. long-cons n v (shortsAt n s next) (shorts-many n s next))
+    long-after (suc n) (shortOf (numberAt s at)) _ (λ v next. long-cons n v (shortsAt n s next) (shorts-many n s next))
 
 -- a list written over one as long
 sets-all : (vs l : List ℕ) → length l ≡ length vs → sets l 0 vs ≡ vs
@@ -79,34 +104,62 @@ sets-all vs l e =
 abbrev scanIn : Shorts → Recorded
 scanIn r =
     record {
-      good = true;
+      standing = Whole;
       elapsed = getD (r .values) 0 0;
       bits = getD (r .values) 1 0 + getD (r .values) 2 0 * 65536;
       words = map signed (drop 3 (r .values));
       next = r .next;
     }
 
-good-shorts :
-    (p : Read (List ℕ)) → Long 11 p → shortsIn p .good ≡ true → scanIn (shortsIn p) ≡ recordedIn (andThen p (λ vs next. got (inputsIn vs) next))
-unfolding shortsIn inputsIn
-good-shorts (got vs next) m g = rw (sets-all vs (replicate 11 0) (sym m))
-good-shorts (fault n at) m g = let z : _≡_ {A = ℕ} 0 1 = cc in absurd (omega arith)
+-- by how they stand
+abbrev Shown : Part (List ℕ) → Standing → Type 0
+Shown p Whole = scanIn (shortsIn p) ≡ recordedIn (andNext p (λ vs next. whole (inputsIn vs) next))
+Shown p Bad = noScan Bad ≡ recordedIn (andNext p (λ vs next. whole (inputsIn vs) next))
+Shown p Cut = noScan Cut ≡ recordedIn (andNext p (λ vs next. whole (inputsIn vs) next))
 
-bad-shorts : (p : Read (List ℕ)) → shortsIn p .good ≡ false → brokenScan ≡ recordedIn (andThen p (λ vs next. got (inputsIn vs) next))
-unfolding shortsIn
-bad-shorts (got vs next) g = let z : _≡_ {A = ℕ} 0 1 = cc in absurd (omega arith)
-bad-shorts (fault n at) g = refl
+shown : (p : Part (List ℕ)) → Long 11 p → Shown p (shortsIn p .standing)
+unfolding shortsIn inputsIn
+shown (whole vs next) m = rw (sets-all vs (replicate 11 0) (sym m))
+shown bad m = refl
+shown cut m = refl
+
+module _ (s : List ℕ) (at : ℕ) {r : Shorts} (e : r ≡ shortsIn (shortsAt 11 s at)) {k : Standing} (f : r .standing ≡ k) where
+  stands : Shown (shortsAt 11 s at) k
+  stands = subst (Shown (shortsAt 11 s at)) (ap (λ (x : Shorts). x .standing) (sym e) ∙ f) (shown (shortsAt 11 s at) (shorts-many 11 s at))
 
 module _ (s : List ℕ) (at : ℕ) {r : Shorts} (e : r ≡ shortsIn (shortsAt 11 s at)) where
-  pub scan-good : r .good ≡ true → scanIn r ≡ recordedIn (scanAt s at)
+  pub scan-whole : r .standing ≡ Whole → scanIn r ≡ recordedIn (scanAt s at)
   unfolding scanAt
-  scan-good g = rw e (good-shorts (shortsAt 11 s at) (shorts-many 11 s at) (rw e at g))
+  scan-whole f = rw e (stands s at e f)
 
-  pub scan-bad : r .good ≡ false → brokenScan ≡ recordedIn (scanAt s at)
+  pub scan-bad : r .standing ≡ Bad → noScan Bad ≡ recordedIn (scanAt s at)
   unfolding scanAt
-  scan-bad g = bad-shorts (shortsAt 11 s at) (rw e at g)
+  scan-bad f = stands s at e f
+
+  pub scan-cut : r .standing ≡ Cut → noScan Cut ≡ recordedIn (scanAt s at)
+  unfolding scanAt
+  scan-cut f = stands s at e f
 
 -- what a scan read tells of the scan that stands there
-pub scan-got : (p : Read Inputs) {r : Recorded} → r ≡ recordedIn p → r .good ≡ true → p ≡ got (inputs (r .elapsed) (r .bits) (r .words)) (r .next)
-scan-got (got x next) e g = rw e
-scan-got (fault n at) {r} e g = let z : r .good ≡ false = rw e in let y : _≡_ {A = ℕ} 0 1 = cc in absurd (omega arith)
+abbrev Told : Part Inputs → Standing → Type 0
+Told p Whole = let r = recordedIn p in p ≡ whole (inputs (r .elapsed) (r .bits) (r .words)) (r .next)
+Told p Bad = p ≡ bad
+Told p Cut = p ≡ cut
+
+tells : (p : Part Inputs) → Told p (recordedIn p .standing)
+tells (whole x next) = refl
+tells bad = refl
+tells cut = refl
+
+module _ (s : List ℕ) (at : ℕ) {r : Recorded} (e : r ≡ recordedIn (scanAt s at)) where
+  by : {k : Standing} → r .standing ≡ k → Told (scanAt s at) k
+  by f = subst (Told (scanAt s at)) (ap (λ (x : Recorded). x .standing) (sym e) ∙ f) (tells (scanAt s at))
+
+  pub scan-is : r .standing ≡ Whole → scanAt s at ≡ whole (inputs (r .elapsed) (r .bits) (r .words)) (r .next)
+  scan-is f = rw e (by f)
+
+  pub scan-is-bad : r .standing ≡ Bad → scanAt s at ≡ bad
+  scan-is-bad f = by f
+
+  pub scan-is-cut : r .standing ≡ Cut → scanAt s at ≡ cut
+  scan-is-cut f = by f

@@ -7,15 +7,16 @@ ghost use lib.ListN.{drop};
 ghost use Rattle.terms.specs.Words.{signed};
 ghost use Rattle.wire.specs.Number.{numberAt};
 ghost use Rattle.recording.specs.Recording.{lengthIn, shortOf, shortsAt, scanAt};
-ghost use Rattle.recording.specs.Answers.{headIn, shortIn, brokenShorts, shortsIn, brokenScan, recordedIn};
+ghost use Rattle.recording.specs.Answers.{headIn, shortIn, noShorts, shortsIn, noScan, recordedIn};
 
 // The longest program.
 pub const PROGRAM: usize = 16384;
 
-// The length of a recording's program and the place where it starts, or none.
+// The length of a recording's program and the place where it starts; no such length; or not all of the program is there.
 pub enum Head {
     Program(usize, usize),
     Bad,
+    Cut,
 }
 
 // The head of a recording.
@@ -30,24 +31,32 @@ pub fn read_head(s: &[u8]) -> Head
                 return Head::Bad;
             }
             if s.len() < at + size {
-                return Head::Bad;
+                return Head::Cut;
             }
             Head::Program(size, at)
         }
         Num::Bad => Head::Bad,
-        Num::Cut => Head::Bad,
+        Num::Cut => Head::Cut,
     }
 }
 
-// A number of 16 bits and the place after it, or none.
+// Whether what is read is all there, is something else, or is cut by the end of the bytes.
+pub enum Standing {
+    Whole,
+    Bad,
+    Cut,
+}
+
+// A number of 16 bits and the place after it; no such number; or one that is cut.
 enum Short {
     Got(u16, usize),
-    Broken,
+    Bad,
+    Cut,
 }
 
 // The number of 16 bits at a place.
 fn read_short(s: &[u8], at: usize) -> Short
-    ensures { λ r. ⌜ r ≡ shortIn (shortOf at (numberAt (now (s .entry)) at)) ⌝ }
+    ensures { λ r. ⌜ r ≡ shortIn (shortOf (numberAt (now (s .entry)) at)) ⌝ }
 {
     let n = wire::number(s, at);
     match n {
@@ -55,26 +64,26 @@ fn read_short(s: &[u8], at: usize) -> Short
             if v < 65536 {
                 return Short::Got(v as u16, next);
             }
-            Short::Broken
+            Short::Bad
         }
-        Num::Bad => Short::Broken,
-        Num::Cut => Short::Broken,
+        Num::Bad => Short::Bad,
+        Num::Cut => Short::Cut,
     }
 }
 
-// The numbers of a scan and the place after them, if they are good.
+// The numbers of a scan and the place after them, if they are all there.
 struct Shorts {
-    pub good: bool,
+    pub standing: Standing,
     pub values: [u16; 11],
     pub next: usize,
 }
 
-// Numbers that are not good.
-fn no_shorts() -> Shorts
-    ensures { λ r. ⌜ r ≡ brokenShorts ⌝ }
+// Numbers that are not all there.
+fn no_shorts(standing: Standing) -> Shorts
+    ensures { λ r. ⌜ r ≡ noShorts standing ⌝ }
 {
     Shorts {
-        good: false,
+        standing,
         values: [0u16; 11],
         next: 0,
     }
@@ -90,8 +99,11 @@ fn read_shorts(s: &[u8], start: usize) -> Shorts
     while i < 11 {
         let n = read_short(s, at);
         match n {
-            Short::Broken => {
-                return no_shorts();
+            Short::Bad => {
+                return no_shorts(Standing::Bad);
+            }
+            Short::Cut => {
+                return no_shorts(Standing::Cut);
             }
             Short::Got(v, next) => {
                 values[i] = v;
@@ -101,7 +113,7 @@ fn read_shorts(s: &[u8], start: usize) -> Shorts
         i += 1;
     }
     Shorts {
-        good: true,
+        standing: Standing::Whole,
         values,
         next: at,
     }
@@ -127,21 +139,21 @@ fn bits_of(low: u16, high: u16) -> u32
     (low as u32) + (high as u32) * 65536
 }
 
-// A scan of a recording and the place after it, if it is good.
+// A scan of a recording and the place after it, if it is all there.
 pub struct Recorded {
-    pub good: bool,
+    pub standing: Standing,
     pub elapsed: u16,
     pub bits: u32,
     pub words: [i16; 8],
     pub next: usize,
 }
 
-// A scan that is not good.
-fn no_scan() -> Recorded
-    ensures { λ r. ⌜ r ≡ brokenScan ⌝ }
+// A scan that is not all there.
+fn no_scan(standing: Standing) -> Recorded
+    ensures { λ r. ⌜ r ≡ noScan standing ⌝ }
 {
     Recorded {
-        good: false,
+        standing,
         elapsed: 0,
         bits: 0,
         words: [0i16; 8],
@@ -154,15 +166,22 @@ pub fn read_scan(s: &[u8], at: usize) -> Recorded
     ensures { λ r. ⌜ r ≡ recordedIn (scanAt (now (s .entry)) at) ⌝ }
 {
     let r = read_shorts(s, at);
-    if !r.good {
-        return no_scan();
+    let standing = r.standing;
+    match standing {
+        Standing::Whole => {}
+        Standing::Bad => {
+            return no_scan(Standing::Bad);
+        }
+        Standing::Cut => {
+            return no_scan(Standing::Cut);
+        }
     }
     let values = r.values;
     let elapsed = values[0];
     let bits = bits_of(values[1], values[2]);
     let words = words_of(values);
     Recorded {
-        good: true,
+        standing: Standing::Whole,
         elapsed,
         bits,
         words,

@@ -1,4 +1,2 @@
-pub mod Streams
-pub mod Steps
-pub mod Parts
-pub mod Rests
+pub mod Moves
+pub mod Keeps

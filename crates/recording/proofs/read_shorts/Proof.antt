@@ -6,7 +6,7 @@ use borrow.Author.Needs.{needs}
 use lib.ListN.{length, length-set}
 use Rattle.recording.specs.Recording.{shortsAt}
 use Rattle.recording.specs.Answers.{shortsIn, shortsFrom}
-use Rattle.recording.proofs.Scans.{shorts-got, shorts-broken}
+use Rattle.recording.proofs.Scans.{shorts-got, shorts-broken, shorts-short}
 use Rattle.recording.proofs.read_shorts.Statement.{statement}
 use Rattle.recording.proofs.read_shorts.Tie as tie
 
@@ -29,6 +29,14 @@ returns c =
     let stop = shorts-broken _ _ _ _ _ (sym (told .before .before .read-short .ensures) ∙ told .enum-told .given .1) in
     c .no-shorts .ensures ∙ sym (rw e at (l .loop .inv .1) ∙ stop)
 
+returns-2 : tie.Need-returns-2 Inv-loop μ-loop
+returns-2 c =
+    let l = c .before .before .before .before .before in
+    let e : 11 - l .loop .i ≡ suc (11 - (l .loop .i + 1)) = omega arith in
+    let told = c .before in
+    let stop = shorts-short _ _ _ _ _ (sym (told .before .before .read-short .ensures) ∙ told .enum-told2 .given .1) in
+    c .no-shorts2 .ensures ∙ sym (rw e at (l .loop .inv .1) ∙ stop)
+
 loop-again : tie.Need-loop-again Inv-loop μ-loop
 loop-again c =
     let l = c .before .before .before .before .before in
@@ -37,9 +45,9 @@ loop-again c =
     let turn = shorts-got _ _ _ _ _ (sym (met .before .before .read-short .ensures) ∙ met .n .given .1) in
     ((omega arith, simp length-set (l .loop .inv .0 .1)), rw e at (l .loop .inv .1) ∙ turn)
 
-returns-2 : tie.Need-returns-2 Inv-loop μ-loop
+returns-3 : tie.Need-returns-3 Inv-loop μ-loop
 unfolding shortsAt
-returns-2 c = let e : 11 - c .before .loop .i ≡ 0 = omega arith in sym (rw e at (c .before .loop .inv .1))
+returns-3 c = let e : 11 - c .before .loop .i ≡ 0 = omega arith in sym (rw e at (c .before .loop .inv .1))
 
 pub read-shorts-spec : {M : Type 1} → statement M
 read-shorts-spec =
@@ -53,9 +61,12 @@ read-shorts-spec =
     (λ c κs. search needs)
     returns
     (λ c. search needs)
+    (λ c κs. search needs)
+    returns-2
+    (λ c. search needs)
     (λ c. search needs)
     (λ c. search needs)
     (λ c. search needs)
     (λ c. search needs)
     loop-again
-    returns-2)
+    returns-3)

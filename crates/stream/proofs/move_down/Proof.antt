@@ -1,5 +1,5 @@
 -- `stream::move_down` meets its contract. The loop's invariant: so much of the front is moved, and the rest is as it was.
-use Rattle.stream.proofs.Streams.{moved}
+use Rattle.stream.proofs.Moves.{moved}
 use mathlib.Core.Path.{_≡_, refl}
 use Prim.Native.Nat.{_-_, _≤_}
 use native.Mathlib.Omega.{arith}

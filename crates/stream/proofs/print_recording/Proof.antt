@@ -1,77 +1,69 @@
--- `stream::print_recording` meets its contract: what opening and playing answer lies within the buffers.
-use Prim.Native.Nat.{_≤_}
-use mathlib.Core.Path.{_≡_, sym}
+-- `stream::print_recording` meets its contract. The loop's invariant: the buffers are as long as they were, and what is kept is small.
+use Prim.Native.Nat.{_+_, _≤_, _<_}
+use mathlib.Core.Path.{_≡_, refl, ap, _∙_}
 use native.Mathlib.Omega.{arith}
-use lib.ListN.{length, take}
-use lib.Seq.{length-take-le}
-use Rattle.playback.proofs.Openings.{opens-small}
+use lib.ListN.{length}
+use Rattle.recording.specs.Recording.{programBytes}
+use Rattle.telling.specs.declared.Player.{Player}
+use Rattle.stream.proofs.Keeps.{roomy-too}
 use borrow.Author.Needs.{needs}
 use Rattle.stream.proofs.print_recording.Statement.{statement}
 use Rattle.stream.proofs.print_recording.Tie as tie
 
--- what opening answers lies within what was read, copied and written
-small :
-    (b : tie.After-open-recording) → let o = b .open-recording in
-    let rf = b .before .before .before .before .before .before .before .read-full in
-    (o .result .size ≤ length (o .last .1 .0))
-    × ((o .result .next ≤ length (take (rf .result) (rf .last .1 .0))) × (o .result .to ≤ length (o .last .1 .1 .0)))
-small b =
-    let filled = b .before .before .before .before .before .before .before in
-    let start = filled .before .before .before .before in
-    opens-small (take (filled .read-full .result) (filled .read-full .last .1 .0)) (b .open-recording .ensures)
-    (omega (arith, b .before .before .before .before .no-program .ensures)) (omega (arith, start .pre))
+abbrev Inv-loop : tie.InvT-loop
+Inv-loop fd buf₀ program₀ text₀ k₀ left₀ buf program text k left =
+    ((length buf ≡ length buf₀) × ((length program ≡ length program₀) × (length text ≡ length text₀)))
+    × ((k .kept < 3 + programBytes) × (k .player .size ≤ length program))
 
-told : tie.Need-slice-aggregate-write-all
-told c =
-    let b = c .before .before .before .before .before .before in
-    let o = b .open-recording in
-    sym (length-take-le (o .result .to) (o .last .1 .1 .0) (small b .1 .1))
+abbrev μ-loop : tie.MeasureT-loop
+μ-loop fd buf₀ program₀ text₀ k₀ left₀ buf program text k left = left
 
--- the program that was copied
-copied : tie.Need-slice-aggregate-play
-copied c =
-    let b = c .before .before .before .before .before .before .before in
-    let o = b .open-recording in
-    sym (length-take-le (o .result .size) (o .last .1 .0) (small b .0))
+loop-holds : tie.Need-loop-holds Inv-loop μ-loop
+loop-holds c =
+    let k = c .nothing-kept .ensures in
+    let size = ap (λ (a : Player). a .size) (k .1 .0) in
+    ((refl, (refl, refl)), (omega (arith, k .0), omega (arith, size)))
 
-play-requires : tie.Need-play-requires
-play-requires c κs =
-    let b = c .before .before .before .before .before .before .before .before in
-    let filled = b .before .before .before .before .before .before .before in
-    let rf = filled .read-full in
-    let p = filled .before .before .before .before .pre in
-    let n : length (take (rf .result) (rf .last .1 .0)) ≡ rf .result = sym (rf .ensures .1) in (
-      (omega (arith, small b .1 .0), rf .ensures .0),
-      (omega (arith, rf .kept .1 .0, p), omega (arith, b .open-recording .kept .1 .1 .0, p)),
+turn-requires : tie.Need-turn-requires Inv-loop μ-loop
+turn-requires c κs =
+    let l = c .before .before .before .before in
+    let s = l .before .before .before .before .before in
+    let inv = l .loop .inv in (
+      omega (arith, s .pre .0, inv .0 .0, inv .1 .0),
+      (
+        omega (arith, s .pre .1 .0, inv .0 .1 .0),
+        (
+          inv .1 .1,
+          roomy-too (s .args .buf .now) (l .loop .buf) (s .args .text .now) (l .loop .text) (inv .0 .0) (inv .0 .1 .1) (s .pre .1 .1),
+        ),
+      ),
     )
 
-played : tie.Need-slice-aggregate-write-all-2
-played c =
-    let p = c .before .before .before .before .before .play in
-    sym (length-take-le (p .result) (p .last .1 .1 .1 .1 .0) (p .ensures))
+loop-again : tie.Need-loop-again Inv-loop μ-loop
+loop-again c =
+    let t = c .before .before .before .before .before .before .before .before in
+    let inv = t .before .before .before .before .before .loop .inv in (
+      (t .turn .kept .1 .0 ∙ inv .0 .0, (t .turn .kept .1 .1 .1 .0 ∙ inv .0 .1 .0, t .turn .kept .1 .1 .1 .1 .0 ∙ inv .0 .1 .1)),
+      (t .turn .ensures .short, t .turn .ensures .small),
+    )
 
 pub print-recording-spec : {M : Type 1} → statement M
 print-recording-spec =
     tie.close
     (tie.spec
+    Inv-loop
+    μ-loop
     (λ c κs. search needs)
-    (λ c κs. search needs)
+    loop-holds
+    turn-requires
     (λ c. search needs)
     (λ c. search needs)
     (λ c. search needs)
-    (λ c κs. search needs)
-    (λ c. small (c .before .before .before .before .before) .1 .1)
-    told
-    (λ c κs. search needs)
     (λ c. search needs)
     (λ c. search needs)
     (λ c. search needs)
-    (λ c. small (c .before .before .before .before .before .before) .0)
-    copied
-    play-requires
-    (λ c. search needs)
-    played
-    (λ c κs. search needs)
-    (λ c. search needs)
-    (λ c. search needs)
+    loop-again
+    (λ c. c .before .loop .inv .0 .0)
+    (λ c. c .before .loop .inv .0 .1 .0)
+    (λ c. c .before .loop .inv .0 .1 .1)
     (λ c. search needs))

@@ -1,0 +1,3 @@
+pub mod Plays
+pub mod Feeds
+pub mod Rests

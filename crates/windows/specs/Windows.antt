@@ -1,0 +1,21 @@
+-- A recording that comes in windows comes to the same, however it is cut.
+use mathlib.Core.List.{List, [], _∷_, _++_}
+use mathlib.Core.Path.{_≡_}
+use Prim.Native.Nat.{ℕ, _+_, _<_}
+use lib.ListN.{length}
+use Rattle.recording.specs.Recording.{programBytes}
+use Rattle.playback.specs.Playback.{Came, Stage, opening, fed, finished, course}
+
+-- each window is fed behind what is left of those before it
+unfoldable pub inWindows : Stage → List ℕ → List (List ℕ) → List Came
+inWindows g left [] = finished g left
+inWindows g left (w ∷ ws) = let f = fed g (left ++ w) in f .came ++ inWindows (f .stage) (f .left) ws
+
+abbrev pub joined : List (List ℕ) → List ℕ
+joined [] = []
+joined (w ∷ ws) = w ++ joined ws
+
+pub record Windows : Type 0 where
+  pub same : (ws : List (List ℕ)) → inWindows opening [] ws ≡ course (joined ws)
+  -- what is left is shorter than a length of three bytes and the longest program, so a buffer of that size is never full of it
+  pub short : (g : Stage) (l : List ℕ) → length (fed g l .left) < 3 + programBytes
