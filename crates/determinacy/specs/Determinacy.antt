@@ -82,10 +82,17 @@ use Rattle.text.proofs.put.Reads as text-put
 use Rattle.text.proofs.put_number.Reads as text-put-number
 use Rattle.lines.proofs.write_line.Reads as lines-write-line
 use Rattle.lines.proofs.write_refused.Reads as lines-write-refused
+use Rattle.lines.proofs.write_bad_scan.Reads as lines-write-bad-scan
+use Rattle.lines.proofs.write_bad_program.Reads as lines-write-bad-program
 use Rattle.recording.proofs.read_scan.Reads as recording-read-scan
 use Rattle.recording.proofs.read_head.Reads as recording-read-head
-use Rattle.playback.proofs.step.Reads as playback-step
+use Rattle.playback.proofs.next_scan.Reads as playback-next-scan
 use Rattle.playback.proofs.open_recording.Reads as playback-open-recording
+use Rattle.telling.proofs.Player.fresh.Reads as telling-player-fresh
+use Rattle.telling.proofs.ended.Reads as telling-ended
+use Rattle.telling.proofs.play.Reads as telling-play
+use Rattle.feeding.proofs.feed.Reads as feeding-feed
+use Rattle.feeding.proofs.finish.Reads as feeding-finish
 use Rattle.io.proofs.buffer.Reads as io-buffer
 
 -- any two answers that meet a contract on the same arguments are equal
@@ -187,9 +194,16 @@ pub record Determinacy : Type 0 where
   pub text-put-number : DeterminedWith (λ κ u. now (u .0)) text-put-number.Learnt
   pub lines-write-line : DeterminedWith (λ κ u. now (u .0)) lines-write-line.Learnt
   pub lines-write-refused : DeterminedWith (λ κ u. now (u .0)) lines-write-refused.Learnt
+  pub lines-write-bad-scan : DeterminedWith (λ κ u. now (u .0)) lines-write-bad-scan.Learnt
+  pub lines-write-bad-program : DeterminedWith (λ κ u. now (u .0)) lines-write-bad-program.Learnt
   pub recording-read-scan : Determined recording-read-scan.Learnt
   pub recording-read-head : Determined recording-read-head.Learnt
-  pub playback-step : DeterminedWith (λ κ u. now (u .1 .1 .1 .1 .0)) playback-step.Learnt
-  pub playback-open-recording : DeterminedWith {L = List ℕ × List ℕ} (λ κ u. (now (u .1 .0), now (u .1 .1 .0))) playback-open-recording.Learnt
+  pub playback-next-scan : Determined playback-next-scan.Learnt
+  pub playback-open-recording : DeterminedWith (λ κ u. now (u .1 .0)) playback-open-recording.Learnt
+  pub telling-player-fresh : Determined telling-player-fresh.Learnt
+  pub telling-ended : Determined telling-ended.Learnt
+  pub telling-play : DeterminedWith (λ κ u. now (u .1 .1 .1 .1 .0)) telling-play.Learnt
+  pub feeding-feed : DeterminedWith {L = List ℕ × List ℕ} (λ κ u. (now (u .1 .1 .0), now (u .1 .1 .1 .0))) feeding-feed.Learnt
+  pub feeding-finish : DeterminedWith (λ κ u. now (u .1 .1 .0)) feeding-finish.Learnt
   -- and a loose contract does not: all that the kit's `io::buffer` ensures is how long the buffer is
   pub loose : Determined io-buffer.Learnt → ⊥

@@ -98,10 +98,18 @@ all =
       text-put-number = λ κ a x y u v h k. (h .place ∙ sym (k .place), h .bytes ∙ sym (k .bytes));
       lines-write-line = λ κ a x y u v h k. (h .place ∙ sym (k .place), h .bytes ∙ sym (k .bytes));
       lines-write-refused = λ κ a x y u v h k. (h .place ∙ sym (k .place), h .bytes ∙ sym (k .bytes));
+      lines-write-bad-scan = λ κ a x y u v h k. (h .place ∙ sym (k .place), h .bytes ∙ sym (k .bytes));
+      lines-write-bad-program = λ κ a x y u v h k. (h .place ∙ sym (k .place), h .bytes ∙ sym (k .bytes));
       recording-read-scan = λ κ a x y u v h k. cc;
       recording-read-head = λ κ a x y u v h k. cc;
-      playback-step = λ κ a x y u v h k. (h .answer ∙ sym (k .answer), h .bytes ∙ sym (k .bytes));
-      playback-open-recording = λ κ a x y u v h k. (h .answer ∙ sym (k .answer), same-two (h .program ∙ sym (k .program)) (h .bytes ∙ sym (k .bytes)));
+      playback-next-scan = λ κ a x y u v h k. cc;
+      playback-open-recording = λ κ a x y u v h k. (h .answer ∙ sym (k .answer), h .program ∙ sym (k .program));
+      telling-player-fresh = λ κ a x y u v h k. cc;
+      telling-ended = λ κ a x y u v h k. cc;
+      telling-play = λ κ a x y u v h k. (h .answer ∙ sym (k .answer), h .bytes ∙ sym (k .bytes));
+      feeding-feed =
+          λ κ a x y u v h k. (h .told .answer ∙ sym (k .told .answer), same-two (h .program ∙ sym (k .program)) (h .told .bytes ∙ sym (k .told .bytes)));
+      feeding-finish = λ κ a x y u v h k. (h .place ∙ sym (k .place), h .bytes ∙ sym (k .bytes));
       loose = loose;
     }
 
