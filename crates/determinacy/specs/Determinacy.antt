@@ -93,6 +93,9 @@ use Rattle.telling.proofs.ended.Reads as telling-ended
 use Rattle.telling.proofs.play.Reads as telling-play
 use Rattle.feeding.proofs.feed.Reads as feeding-feed
 use Rattle.feeding.proofs.finish.Reads as feeding-finish
+use Rattle.reading.proofs.told_by.Reads as reading-told-by
+use Rattle.reading.proofs.move_down.Reads as reading-move-down
+use Rattle.keeping.proofs.feed_window.Reads as keeping-feed-window
 use Rattle.io.proofs.buffer.Reads as io-buffer
 
 -- any two answers that meet a contract on the same arguments are equal
@@ -205,5 +208,9 @@ pub record Determinacy : Type 0 where
   pub telling-play : DeterminedWith (λ κ u. now (u .1 .1 .1 .1 .0)) telling-play.Learnt
   pub feeding-feed : DeterminedWith {L = List ℕ × List ℕ} (λ κ u. (now (u .1 .1 .0), now (u .1 .1 .1 .0))) feeding-feed.Learnt
   pub feeding-finish : DeterminedWith (λ κ u. now (u .1 .1 .0)) feeding-finish.Learnt
+  pub reading-told-by : Determined reading-told-by.Learnt
+  pub reading-move-down : DeterminedWith (λ κ u. now (u .0)) reading-move-down.Learnt
+  pub keeping-feed-window : DeterminedWith {L = List ℕ × (List ℕ × List ℕ)}
+      (λ κ u. (now (u .0), (now (u .1 .1 .1 .0), now (u .1 .1 .1 .1 .0)))) keeping-feed-window.Learnt
   -- and a loose contract does not: all that the kit's `io::buffer` ensures is how long the buffer is
   pub loose : Determined io-buffer.Learnt → ⊥

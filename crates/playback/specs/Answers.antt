@@ -5,10 +5,8 @@ use Prim.Native.Nat.{ℕ}
 use lib.ListN.{length}
 use lib.Seq.{sets}
 use Rattle.image.specs.declared.State.{State}
-use Rattle.calls.specs.declared.Scanned.{Scanned}
 use Rattle.calls.specs.Calls.{refusedScan}
 use Rattle.playback.specs.Playback.{Turn, runs, refuses, fails, waits, Opening, opens, refusesIt, failsIt, waitsIt}
-use Rattle.playback.specs.declared.Turning.{Turning}
 use Rattle.playback.specs.declared.Turning.the-variants.{Runs, Refuses, Fails, Waits}
 use Rattle.playback.specs.declared.Turned.{Turned}
 use Rattle.playback.specs.declared.Opened.{Opened}

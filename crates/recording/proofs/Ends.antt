@@ -1,7 +1,7 @@
 -- Laws of where a scan ends: it takes at least eleven bytes, all of them within the data; and where one is cut, fewer than its most bytes are there.
 -- Assumes nothing.
 use Prim.Native.Nat.{ℕ, zero, suc, _+_, _*_, _≤_, _<_}
-use mathlib.Core.Path.{_≡_, refl, subst}
+use mathlib.Core.Path.{_≡_, refl}
 use mathlib.Core.List.{List, _∷_}
 use native.Mathlib.Omega.{arith}
 use lib.Dec.{ltb}
@@ -13,7 +13,6 @@ use Rattle.wire.specs.Number.{numberAt}
 use Rattle.wire.specs.Facts.{IsCut, cut-short}
 use Rattle.wire.proofs.Laws.{takes}
 use Rattle.wire.proofs.Reasons.{cut-exactly}
-use Rattle.scanning.specs.Scan.{Inputs}
 use Rattle.recording.specs.Recording.{Part, whole, bad, cut, andNext, shortOf, shortsAt, inputsIn, scanAt, leastBytes}
 
 -- a number stands within the data, and one that is cut is near its end

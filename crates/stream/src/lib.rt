@@ -1,18 +1,20 @@
-// A recording read by way of windows: read, feed, write. What is read and written is the system's.
+// A recording printed: read, feed, write. What is read and written is the system's.
+use keeping::Keep;
 use libc::STDOUT_FILENO;
+use reading::Input;
 use recording::PROGRAM;
 use telling::Phase;
 use telling::Player;
 ghost use mathlib.Core.Path.{_≡_};
-ghost use mathlib.Core.Bool.{false};
-ghost use Prim.Native.Nat.{_+_, _-_, _≤_, _<_};
-ghost use lib.ListN.{length, take, drop};
+ghost use mathlib.Core.List.{[]};
+ghost use Prim.Native.Nat.{_+_, _≤_, _<_};
+ghost use lib.ListN.{length, take};
 ghost use Rattle.recording.specs.Recording.{programBytes};
-ghost use Rattle.playback.specs.Playback.{opening, fed};
-ghost use Rattle.telling.specs.Answers.{playerOf, Roomy};
-ghost use Rattle.feeding.specs.Answers.{stageOf};
 ghost use Rattle.lines.specs.Lines.{lineBytes};
-ghost use Rattle.stream.specs.Keeping.{Kept, Inside, Went};
+ghost use Rattle.playback.specs.Playback.{opening, over};
+ghost use Rattle.telling.specs.Answers.{Roomy};
+ghost use Rattle.feeding.specs.Answers.{stageOf};
+ghost use Rattle.stream.specs.Turns.{nothingKept, Closed, Went};
 
 // The size of a window: longer than anything that is left of one.
 const WINDOW: usize = 32768;
@@ -41,20 +43,6 @@ fn new_program() -> [u8; PROGRAM]
     [0; PROGRAM]
 }
 
-// Moves the bytes from..to down, and answers how many they are.
-fn move_down(buf: &mut [u8], from: usize, to: usize) -> usize
-    requires { ⌜ (from ≤ to) × (to ≤ length (now buf)) ⌝ }
-    ensures { λ r. ⌜ (r ≡ to - from) × (take r (now (buf .exit)) ≡ take r (drop from (now (buf .entry)))) ⌝ }
-{
-    let n = to - from;
-    let mut i: usize = 0;
-    while i < n {
-        buf[i] = buf[from + i];
-        i += 1;
-    }
-    n
-}
-
 // Writes a text, and answers whether it could be written; says so if it could not.
 fn write_out(text: &[u8]) -> bool {
     if io::write_all(STDOUT_FILENO, text) {
@@ -64,106 +52,71 @@ fn write_out(text: &[u8]) -> bool {
     false
 }
 
-// Whether to read on: the run has not ended, and its text could be written.
-fn goes_on(player: Player, written: bool) -> bool {
-    if !written {
-        return false;
-    }
-    let phase = player.phase;
-    match phase {
-        Phase::Over => false,
-        Phase::Opening | Phase::Playing => true,
-    }
-}
-
-// A recording, how many bytes of its last window are kept, and whether to read on.
-struct Keep {
-    pub player: Player,
-    pub kept: usize,
-    pub more: bool,
-}
-
-// Feeds the bytes up to `end`, writes their text, and moves what is left of them down.
-fn feed_window(
-    buf: &mut [u8],
-    end: usize,
-    player: Player,
-    program: &mut [u8],
-    text: &mut [u8],
-) -> Keep
-    requires { ⌜ (end ≤ length (now buf)) × ((programBytes ≤ length (now program)) × ((player .size ≤ length (now program)) × Roomy (now buf) (now text))) ⌝ }
-    ensures { λ r. ⌜ Kept (fed (stageOf player (now (program .entry))) (take end (now (buf .entry)))) (now (buf .exit)) (now (program .exit)) r ⌝ }
-{
-    let f = feeding::feed(&buf[..end], player, program, text);
-    let to = f.to;
-    let written = write_out(&text[..to]);
-    let p = f.player;
-    let kept = move_down(buf, f.used, end);
-    Keep {
-        player: p,
-        kept,
-        more: goes_on(p, written),
-    }
-}
-
-// What a read gave: some bytes, the end of the input, or nothing, because it failed.
-enum Input {
-    Bytes(usize),
-    End,
-    Failed,
-}
-
-// Reads on behind what is kept. There is room, so that a count of 0 is the end of the input.
-fn read_behind(fd: i32, buf: &mut [u8], kept: usize) -> Input
-    requires { ⌜ kept < length (now buf) ⌝ }
-    ensures { λ r. ⌜ (take kept (now (buf .exit)) ≡ take kept (now (buf .entry))) × Inside kept (now (buf .exit)) r ⌝ }
-{
-    let got = libc::read(fd, &mut buf[kept..]);
-    if got < 0 {
-        os::fail(b"cannot read");
-        return Input::Failed;
-    }
-    let n = io::count(got, &buf[kept..]);
-    if n == 0 {
-        return Input::End;
-    }
-    Input::Bytes(n)
-}
-
-// A recording of which nothing is read yet, or that is read no further.
-fn nothing_kept(more: bool) -> Keep
-    ensures { λ r. ⌜ (r .kept ≡ 0) × ((r .player ≡ playerOf opening) × (r .more ≡ more)) ⌝ }
+// A recording of which nothing is read.
+fn started() -> Keep
+    ensures { λ r. ⌜ r ≡ nothingKept opening ⌝ }
 {
     Keep {
         player: Player::fresh(),
         kept: 0,
-        more,
+        to: 0,
     }
 }
 
-// Prints what there is to say at the end.
-fn close(rest: &[u8], player: Player, text: &mut [u8]) -> Keep
-    requires { ⌜ lineBytes ≤ length (now text) ⌝ }
-    ensures { λ r. ⌜ (r .kept ≡ 0) × ((r .player ≡ playerOf opening) × (r .more ≡ false)) ⌝ }
+// A recording that is read no further.
+fn stopped() -> Keep
+    ensures { λ r. ⌜ r ≡ nothingKept over ⌝ }
 {
-    let to = feeding::finish(rest, player, text);
-    write_out(&text[..to]);
-    nothing_kept(false)
+    let e = telling::ended(0, 0);
+    let player = e.player;
+    Keep {
+        player,
+        kept: 0,
+        to: 0,
+    }
 }
 
-// One window: read, feed, write.
+// The end of the input, where `rest` is left: what there is to say.
+fn close(rest: &[u8], player: Player, text: &mut [u8]) -> Keep
+    requires { ⌜ lineBytes ≤ length (now text) ⌝ }
+    ensures { λ r. ⌜ Closed (stageOf player []) (now (rest .entry)) (now (text .entry)) (now (text .exit)) r ⌝ }
+{
+    let to = feeding::finish(rest, player, text);
+    let e = telling::ended(0, to);
+    let ended = e.player;
+    Keep {
+        player: ended,
+        kept: 0,
+        to,
+    }
+}
+
+// One window: reads it, and feeds it.
 fn turn(fd: i32, buf: &mut [u8], last: Keep, program: &mut [u8], text: &mut [u8]) -> Keep
     requires { ⌜ (last .kept < length (now buf)) × ((programBytes ≤ length (now program)) × ((last .player .size ≤ length (now program))
         × Roomy (now buf) (now text))) ⌝ }
-    ensures { λ r. ⌜ Went (stageOf (last .player) (now (program .entry))) (take (last .kept) (now (buf .entry))) (now (buf .exit)) (now (program .exit)) r ⌝ }
+    ensures { λ r. ⌜ Went (stageOf (last .player) (now (program .entry))) (take (last .kept) (now (buf .entry))) (now (buf .exit))
+        (now (program .entry)) (now (program .exit)) (now (text .entry)) (now (text .exit)) r ⌝ }
 {
     let kept = last.kept;
     let player = last.player;
-    let got = read_behind(fd, buf, kept);
+    let got = reading::read_behind(fd, buf, kept);
     match got {
-        Input::Failed => nothing_kept(false),
+        Input::Failed => {
+            os::fail(b"cannot read");
+            stopped()
+        }
         Input::End => close(&buf[..kept], player, text),
-        Input::Bytes(n) => feed_window(buf, kept + n, player, program, text),
+        Input::Bytes(n) => keeping::feed_window(buf, kept + n, player, program, text),
+    }
+}
+
+// Whether a run has ended.
+fn is_over(player: Player) -> bool {
+    let phase = player.phase;
+    match phase {
+        Phase::Over => true,
+        Phase::Opening | Phase::Playing => false,
     }
 }
 
@@ -171,11 +124,16 @@ fn turn(fd: i32, buf: &mut [u8], last: Keep, program: &mut [u8], text: &mut [u8]
 fn print_recording(fd: i32, buf: &mut [u8], program: &mut [u8], text: &mut [u8])
     requires { ⌜ (3 + programBytes ≤ length (now buf)) × ((programBytes ≤ length (now program)) × Roomy (now buf) (now text)) ⌝ }
 {
-    let mut k = nothing_kept(true);
+    let mut k = started();
     let mut left = WINDOWS;
     while 0 < left {
         k = turn(fd, buf, k, program, text);
-        if !k.more {
+        let to = k.to;
+        if !write_out(&text[..to]) {
+            return;
+        }
+        let player = k.player;
+        if is_over(player) {
             return;
         }
         left -= 1;

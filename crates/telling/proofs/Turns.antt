@@ -15,13 +15,12 @@ use Rattle.lines.specs.Lines.{lineBytes}
 use Rattle.lines.proofs.Lines.{line-short, refused-short}
 use Rattle.image.specs.declared.State.{State}
 use Rattle.scanning.specs.Scan.{Inputs}
-use Rattle.calls.specs.declared.Scanned.{Scanned}
 use Rattle.calls.specs.Calls.{scanOf}
 use Rattle.recording.specs.Recording.{Part, whole, bad, cut, scanAt, leastBytes}
 use Rattle.recording.proofs.Ends.{Takes, scan-takes}
 use Rattle.recording.proofs.Moves.{shifted, scan-left}
 use Rattle.playback.specs.Playback.{Came, ran, refused, badScan, badProgram, Stage, playing, over, Fed, pausing, ending, before}
-use Rattle.playback.specs.Playback.{Turn, runs, refuses, fails, waits, turnBy, turnOf, playedBy, playedIn, played}
+use Rattle.playback.specs.Playback.{runs, refuses, turnBy, turnOf, playedBy, playedIn, played}
 use Rattle.playback.specs.Answers.{turned}
 use Rattle.playback.specs.declared.Turning.{Turning}
 use Rattle.playback.specs.declared.Turning.the-variants.{Runs, Refuses, Fails, Waits}

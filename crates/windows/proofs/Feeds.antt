@@ -1,6 +1,6 @@
 -- Feeds one after another are one feed of all their bytes, so a recording comes to the same however it is cut into windows. Assumes nothing.
 use Prim.Native.Nat.{ℕ, _+_, _≤_, _<_}
-use mathlib.Core.Path.{_≡_, refl, sym, ap, subst, _∙_}
+use mathlib.Core.Path.{_≡_, refl, sym}
 use mathlib.Core.Bool.{Bool, true, false}
 use mathlib.Core.List.{List, [], _∷_, _++_, append-nil, append-assoc}
 use native.Mathlib.Omega.{arith}
@@ -14,8 +14,8 @@ use Rattle.image.specs.State.{freshState}
 use Rattle.recording.specs.Recording.{Part, whole, bad, cut, lengthIn, programBytes}
 use Rattle.recording.proofs.Heads.{Fit, length-fits}
 use Rattle.recording.proofs.Prefixes.{Stays, length-stays}
-use Rattle.playback.specs.Playback.{Came, refused, badProgram, Stage, opening, playing, over, Fed, pausing, ending}
-use Rattle.playback.specs.Playback.{Opening, opens, refusesIt, openedBy, openedOf, openingIn, openedTo, fed, finished, course}
+use Rattle.playback.specs.Playback.{Came, refused, badProgram, Stage, opening, playing, over, Fed, pausing}
+use Rattle.playback.specs.Playback.{opens, refusesIt, openedBy, openedOf, openingIn, openedTo, fed, finished, course}
 use Rattle.windows.specs.Windows.{inWindows, joined, Windows}
 use Rattle.windows.proofs.Plays.{andFed, after-end, played-join, Settled, end-settled, played-settled}
 

@@ -1,5 +1,5 @@
 -- Scans played one after the other: fuel that is enough makes no difference, and bytes that follow are played after those at hand. Assumes nothing.
-use Prim.Native.Nat.{ℕ, zero, suc, _+_, _-_, _*_, _≤_, _<_}
+use Prim.Native.Nat.{ℕ, zero, suc, _≤_, _<_}
 use mathlib.Core.Path.{_≡_, refl, sym, ap, subst, _∙_}
 use mathlib.Core.Bool.{Bool, true, false}
 use mathlib.Core.List.{List, [], _∷_, _++_}
@@ -10,13 +10,12 @@ use lib.Seq.{drop-append-le}
 use Rattle.terms.specs.Choice.{pick}
 use Rattle.image.specs.declared.State.{State}
 use Rattle.scanning.specs.Scan.{Inputs}
-use Rattle.calls.specs.declared.Scanned.{Scanned}
 use Rattle.calls.specs.Calls.{scanOf}
 use Rattle.wire.specs.Number.{groupsAt, numberAt}
 use Rattle.recording.specs.Recording.{Part, whole, bad, cut, shortsAt, scanAt, scanBytes}
 use Rattle.recording.proofs.Ends.{Takes, scan-takes}
 use Rattle.recording.proofs.Prefixes.{Stays, scan-stays}
-use Rattle.playback.specs.Playback.{Came, ran, refused, badScan, Stage, playing, over, Fed, pausing, ending, before}
+use Rattle.playback.specs.Playback.{Came, ran, refused, badScan, Stage, playing, Fed, pausing, ending, before}
 use Rattle.playback.specs.Playback.{runs, refuses, turnBy, turnOf, playedBy, playedIn, played, fed}
 
 -- no bytes are no scan yet

@@ -16,7 +16,7 @@ use Rattle.calls.specs.Calls.{scanOf}
 use Rattle.recording.specs.Recording.{Part, whole, bad, cut, lengthIn, scanAt}
 use Rattle.recording.proofs.Ends.{Takes, scan-takes}
 use Rattle.recording.proofs.Heads.{Fit, length-fits}
-use Rattle.playback.specs.Playback.{Stage, opening, playing, over, Fed, runs, refuses, turnBy, turnOf, playedBy, playedIn, played}
+use Rattle.playback.specs.Playback.{Stage, opening, playing, over, runs, refuses, turnBy, turnOf, playedBy, playedIn, played}
 use Rattle.playback.specs.Playback.{opens, refusesIt, openedBy, openedOf, openingIn, openedTo, fed}
 
 -- r is what stands in l from a place on

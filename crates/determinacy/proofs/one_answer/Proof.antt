@@ -110,6 +110,11 @@ all =
       feeding-feed =
           λ κ a x y u v h k. (h .told .answer ∙ sym (k .told .answer), same-two (h .program ∙ sym (k .program)) (h .told .bytes ∙ sym (k .told .bytes)));
       feeding-finish = λ κ a x y u v h k. (h .place ∙ sym (k .place), h .bytes ∙ sym (k .bytes));
+      reading-told-by = λ κ a x y u v h k. cc;
+      reading-move-down = λ κ a x y u v h k. (h .0 ∙ sym (k .0), h .1 ∙ sym (k .1));
+      keeping-feed-window =
+          λ κ a x y u v h k.
+          (h .answer ∙ sym (k .answer), same-two (h .buffer ∙ sym (k .buffer)) (same-two (h .program ∙ sym (k .program)) (h .lines ∙ sym (k .lines))));
       loose = loose;
     }
 

@@ -2,7 +2,8 @@
 use mathlib.Core.Path.{refl, sym}
 use native.Mathlib.Omega.{arith}
 use lib.Seq.{length-take-le}
-use Rattle.stream.proofs.Keeps.{behind, roomy-too, went-nowhere, went-on}
+use Rattle.stream.specs.Turns.{fails}
+use Rattle.stream.proofs.Turns.{behind, roomy-too, ends-so, read-on}
 use borrow.Author.Needs.{needs}
 use Rattle.stream.proofs.turn.Statement.{statement}
 use Rattle.stream.proofs.turn.Tie as tie
@@ -29,19 +30,20 @@ fed c κs =
     let roomy = roomy-too (s .args .buf .now) b (s .args .text .now) (s .args .text .now) (r .read-behind .kept .1 .0) refl (s .pre .1 .1 .1) in
     (behind (s .args .last .kept) b (r .read-behind .ensures .1) (g .got .given .1), (s .pre .1 .0, (s .pre .1 .1 .0, roomy)))
 
-failed : tie.Need-returns
-failed c = went-nowhere _ _ _ _ (c .nothing-kept .ensures)
-
 ended : tie.Need-returns-2
-ended c = went-nowhere _ _ _ _ (c .before .before .close .ensures)
+ended c =
+    let k = c .before .before in
+    let r = k .before .before .before .before .before .before .before in
+    let s = r .before .before .before .before .before .before in
+    ends-so (s .args .last .player) (s .args .program .now) _ _ (r .read-behind .ensures .0) (k .close .ensures)
 
-went : tie.Need-returns-3
-went c =
+read : tie.Need-returns-3
+read c =
     let f = c .before .before .before .before .before .before in
     let g = f .before .before .before .before .before in
     let r = g .before .before .before .before in
     let s = r .before .before .before .before .before .before in
-    went-on _ (s .args .last .kept) (g .got .given .0 .0) (s .args .buf .now) (r .read-behind .last .1 .0) (r .read-behind .ensures .0) (f .feed-window .ensures)
+    read-on _ (s .args .last .kept) (g .got .given .0 .0) (s .args .buf .now) (r .read-behind .last .1 .0) (r .read-behind .ensures .0) (f .feed-window .ensures)
 
 pub turn-spec : {M : Type 1} → statement M
 turn-spec =
@@ -49,6 +51,8 @@ turn-spec =
     (tie.spec
     (λ c κs. search needs)
     (λ c. search needs)
+    (λ c. search needs)
+    (λ c κs. search needs)
     (λ c κs. search needs)
     (λ c. search needs)
     (λ c. search needs)
@@ -58,11 +62,11 @@ turn-spec =
     sum
     fed
     (λ c. search needs)
-    failed
+    (λ c. fails (c .stopped .ensures))
     (λ c. search needs)
     (λ c. search needs)
     ended
     (λ c. search needs)
     (λ c. search needs)
     (λ c. search needs)
-    went)
+    read)

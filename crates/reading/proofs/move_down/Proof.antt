@@ -1,12 +1,12 @@
--- `stream::move_down` meets its contract. The loop's invariant: so much of the front is moved, and the rest is as it was.
-use Rattle.stream.proofs.Moves.{moved}
+-- `reading::move_down` meets its contract. The loop's invariant: so much of the front is moved, and the rest is as it was.
+use Rattle.reading.proofs.Moves.{moved, all-moved}
 use mathlib.Core.Path.{_≡_, refl}
 use Prim.Native.Nat.{_-_, _≤_}
 use native.Mathlib.Omega.{arith}
 use borrow.Author.Needs.{needs}
 use lib.ListN.{length, take, drop, length-set}
-use Rattle.stream.proofs.move_down.Statement.{statement}
-use Rattle.stream.proofs.move_down.Tie as tie
+use Rattle.reading.proofs.move_down.Statement.{statement}
+use Rattle.reading.proofs.move_down.Tie as tie
 
 abbrev Inv-loop : tie.InvT-loop
 Inv-loop buf₀ from to n i₀ buf i =
@@ -26,7 +26,7 @@ returns c =
     let l = c .before in
     let a = l .before .args in
     let e : l .loop .i ≡ a .to - a .from = omega arith in
-    (refl, rw e at (l .loop .inv .1 .0))
+    (refl, rw e at (all-moved (l .loop .buf) (a .buf .now) (a .from) (l .loop .i) (l .loop .inv .1 .0) (l .loop .inv .1 .1)))
 
 pub move-down-spec : {M : Type 1} → statement M
 move-down-spec =
