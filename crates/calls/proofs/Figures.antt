@@ -38,7 +38,7 @@ pub steps-bounded : (x : Inputs) (p : Program) (s : State) → answered p x s .s
 unfolding answered
 steps-bounded x p s = rw (take-all (length (p .blocks)) (p .blocks) (omega arith)) at (steps-most x (p .blocks) (s .places) (length (p .blocks)) (omega arith))
 
--- a refused scan has no steps, and an answered one those of its blocks
+-- a refused scan has no steps, whatever it is refused for, and an answered one those of its blocks
 pub scan-bounded : (bytes : List ℕ) (x : Inputs) (s : State) → scanOf bytes x s .steps ≤ accepted bytes .steps
 unfolding scanOf
 scan-bounded bytes x s = go (eqb (accepted bytes .refusal) 0) refl (goodState s) refl (late (x .elapsed) (s .time) (s .journal .missed)) refl
@@ -49,6 +49,7 @@ scan-bounded bytes x s = go (eqb (accepted bytes .refusal) 0) refl (goodState s)
     go : (a : Bool) → eqb (accepted bytes .refusal) 0 ≡ a → (b : Bool) → goodState s ≡ b
         → (c : Bool) → late (x .elapsed) (s .time) (s .journal .missed) ≡ c → scanOf bytes x s .steps ≤ accepted bytes .steps
     go false e b f c g = rw e (omega arith)
-    go true e false f c g = rw (e, f) (omega arith)
-    go true e true f true g = rw (e, f, g) (omega arith)
+    go true e false f true g = simp (e, f, g) (omega arith)
+    go true e false f false g = simp (e, f, g) (omega arith)
+    go true e true f true g = simp (e, f, g) (omega arith)
     go true e true f false g = rw (e, f, g) (answer (accepted-good bytes (eqb-true (accepted bytes .refusal) 0 e)))
