@@ -1,4 +1,4 @@
--- An image and its state: each gives back the other. Assumes nothing.
+-- An image and its state: columns and a state come back. Assumes nothing.
 use mathlib.Core.Path.{_≡_, refl, sym, ap, ap₂, _∙_}
 use mathlib.Core.Bool.{Bool, true, false}
 use mathlib.Core.List.{List, [], _∷_, map}
@@ -12,11 +12,10 @@ use Rattle.terms.specs.Bits.{digit}
 use Rattle.terms.proofs.Choice.{both}
 use Rattle.place.specs.declared.Place.{Place}
 use Rattle.image.specs.declared.State.{State}
-use Rattle.image.specs.Image.{Log, Columns, Image, isOn, placesIn, timeIn, alarmsIn, journalIn, stateIn, outputOf, columnsOf, logOf, imageOf, atMost, isImage}
-use Rattle.image.specs.Lent.{SizedLog, SizedColumns}
-use Rattle.image.proofs.Counts.{counts-again}
+use Rattle.image.specs.Image.{Columns, Image, isOn, placesIn, alarmsIn, stateIn, outputOf, columnsOf, imageOf, atMost, isImage}
+use Rattle.image.specs.Lent.{SizedColumns}
 use Rattle.image.proofs.Columns.{pins-of-places, outputs-of-places, ticks-of-places, words-of-places}
-use Rattle.image.proofs.Columns.{places-of-columns, numbers-of-entries, times-of-entries, entries-of-columns}
+use Rattle.image.proofs.Columns.{places-of-columns, entries-of-columns}
 
 -- outputs that are bits, and an alarm word that fits
 pub record Imaged (i : Image) : Type 0 where
@@ -57,18 +56,11 @@ pub outputs-by-bits : (ps : List Place) → map outputOf ps ≡ map digit (map (
 outputs-by-bits [] = refl
 outputs-by-bits (p ∷ ps) = ap (λ (l : List ℕ). outputOf p ∷ l) (outputs-by-bits ps)
 
--- a log and columns, by the lengths that their types give them
-pub log-again : (l : Log) → SizedLog l → logOf (timeIn l) (alarmsIn l) (journalIn l) ≡ l
-log-again l s =
-    rw (counts-again (l .counts) (s .counts), times-of-entries (l .numbers) (l .times) (s .times), numbers-of-entries (l .numbers) (l .times) (s .numbers))
-
+-- columns, by the lengths that their types give them
 pub columns-again : (c : Columns) → SizedColumns c → every (atMost 1) (c .outputs) ≡ true → columnsOf (placesIn c) ≡ c
 columns-again c s e =
     let o = outputs-by-bits (placesIn c) ∙ ap (map digit) (outputs-of-places c (s .outputs)) ∙ bits-again (c .outputs) e in
     rw (ticks-of-places c (s .ticks), words-of-places c (s .words), pins-of-places c (s .pins), o)
-
-pub image-again : (i : Image) → SizedLog (i .log) → SizedColumns (i .columns) → isImage i ≡ true → imageOf (stateIn i) ≡ i
-image-again i l c e = rw (log-again (i .log) l, columns-again (i .columns) c (image-parts i e .bits))
 
 -- a state, by what its type tells of it
 module _ (s : State) (places : length (s .places) ≡ 200) (entries : length (s .journal .entries) ≡ 32) where

@@ -7,7 +7,6 @@ use mathlib.Core.List.{List, _∷_}
 use lib.Dec.{ltb}
 use lib.ListN.{length}
 use Rattle.terms.specs.Choice.{every}
-use Rattle.terms.specs.Refusals.{astray}
 use Rattle.terms.proofs.Choice.{pick-case}
 use Rattle.wire.specs.Reading.{Read}
 use Rattle.numbers.specs.Blocks.{Bit, Content, Block, refsPass}

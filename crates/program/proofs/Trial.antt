@@ -36,12 +36,6 @@ read-by-any k s {p} {end} e = go (rw e at (program-again k everyBlock s))
     go (same t h) = h
     go (stray t at h) = absurd (reads-all s h refl)
 
--- so what that one reading reads is the program
-pub trial-read :
-    (s : List ℕ) {n at : ℕ} → typedAt everyBlock blockCount 0 s 0 ≡ got n at →
-    {p : Program} {end : ℕ} → programAt (firstBlocks n) s ≡ got p end → programAt everyBlock s ≡ got p end
-trial-read s {n} e h = read-by-any (firstBlocks n) s h
-
 -- a program has as many blocks as its count says
 program-long : (k : Marks) (s : List ℕ) {n at : ℕ} → typedAt k blockCount 0 s 0 ≡ got n at → Gives (λ p. length (p .blocks) ≡ n) (programAt k s)
 unfolding programAt

@@ -16,7 +16,7 @@ use Rattle.image.specs.State.{goodState}
 use Rattle.scanning.specs.Scan.{Inputs, readBit, scanTo, stepsTo, alarmWord}
 use Rattle.calls.specs.Calls.{answered, stampOf}
 use Rattle.calls.proofs.Figures.{steps-bounded}
-use Rattle.promises.specs.History.{scan, Past, risesAt, placesThen, bitsThen, risesThen, pastScan}
+use Rattle.promises.specs.History.{Past, risesAt, placesThen, bitsThen, risesThen, pastScan}
 use Rattle.promises.specs.Demand2.{ByTheRules}
 use Rattle.promises.proofs.Rises.{rises-from}
 use Rattle.promises.proofs.Ledgers.{Keeps, enters-all, inAll, all-more}

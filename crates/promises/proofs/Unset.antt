@@ -1,8 +1,7 @@
 -- What a kind's rule does not set stays as it was. Assumes nothing.
 use Prim.Native.Nat.{ℕ, _+_}
 use mathlib.Core.Path.{_≡_, refl}
-use mathlib.Core.Bool.{Bool, true, false, Bool·beq}
-use native.Mathlib.Omega.{arith}
+use mathlib.Core.Bool.{Bool, false, Bool·beq}
 use lib.Dec.{leb}
 use lib.IntN.{ℤ}
 use Rattle.terms.specs.Choice.{pick}

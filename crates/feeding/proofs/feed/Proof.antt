@@ -1,11 +1,8 @@
 -- `feeding::feed` meets its contract, by the phase.
-use mathlib.Core.Path.{_≡_, refl, sym, _∙_}
-use mathlib.Core.List.{[]}
-use native.Mathlib.Omega.{arith}
-use lib.ListN.{length, take}
+use mathlib.Core.Path.{refl, sym}
+use lib.ListN.{take}
 use lib.Seq.{length-take-le}
-use Rattle.playback.specs.Playback.{playing, over, pausing, fed}
-use Rattle.telling.proofs.Turns.{told-so}
+use Rattle.playback.specs.Playback.{playing, fed}
 use Rattle.feeding.proofs.Stages.{over-fed, stage-told, left-told, front-of}
 use borrow.Author.Needs.{needs}
 use Rattle.feeding.proofs.feed.Statement.{statement}

@@ -1,7 +1,6 @@
 -- `feeding::open` meets its contract: the recording waits, ends, or goes on to its scans.
 use Prim.Native.Nat.{_≤_}
-use mathlib.Core.Path.{_≡_, refl, sym, _∙_}
-use native.Mathlib.Omega.{arith}
+use mathlib.Core.Path.{sym}
 use lib.ListN.{length}
 use lib.Seq.{length-take-le}
 use Rattle.feeding.proofs.Opens.{waits-open, bad-open, refused-open, open-fits, plays-open}

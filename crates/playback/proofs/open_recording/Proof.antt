@@ -1,7 +1,7 @@
 -- `playback::open_recording` meets its contract: the head, the program's acceptance, and its copy.
 use Prim.Native.Nat.{_+_, _-_, _≤_}
 use lib.ListN.{length, length-take}
-use mathlib.Core.Path.{_≡_, refl, sym, _∙_}
+use mathlib.Core.Path.{_≡_, sym, _∙_}
 use native.Mathlib.Omega.{arith}
 use Rattle.recording.specs.Recording.{programBytes}
 use Rattle.recording.proofs.Heads.{head-fits}

@@ -1,5 +1,5 @@
 -- `reading::told_by` meets its contract.
-use mathlib.Core.Path.{_≡_, sym, _∙_}
+use mathlib.Core.Path.{sym, _∙_}
 use mir.Facts.{toZ-ofZ}
 use Rattle.reading.proofs.Inputs.{fails, ends, gives}
 use borrow.Author.Needs.{needs}
