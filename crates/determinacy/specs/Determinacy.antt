@@ -96,6 +96,7 @@ use Rattle.feeding.proofs.finish.Reads as feeding-finish
 use Rattle.reading.proofs.told_by.Reads as reading-told-by
 use Rattle.reading.proofs.move_down.Reads as reading-move-down
 use Rattle.keeping.proofs.feed_window.Reads as keeping-feed-window
+use Rattle.intake.proofs.go_on.Reads as intake-go-on
 use Rattle.io.proofs.buffer.Reads as io-buffer
 
 -- any two answers that meet a contract on the same arguments are equal
@@ -212,5 +213,7 @@ pub record Determinacy : Type 0 where
   pub reading-move-down : DeterminedWith (λ κ u. now (u .0)) reading-move-down.Learnt
   pub keeping-feed-window : DeterminedWith {L = List ℕ × (List ℕ × List ℕ)}
       (λ κ u. (now (u .0), (now (u .1 .1 .1 .0), now (u .1 .1 .1 .1 .0)))) keeping-feed-window.Learnt
+  pub intake-go-on : DeterminedWith {L = List ℕ × (List ℕ × List ℕ)}
+      (λ κ u. (now (u .1 .0), (now (u .1 .1 .1 .0), now (u .1 .1 .1 .1 .0)))) intake-go-on.Learnt
   -- and a loose contract does not: all that the kit's `io::buffer` ensures is how long the buffer is
   pub loose : Determined io-buffer.Learnt → ⊥

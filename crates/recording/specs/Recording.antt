@@ -59,9 +59,6 @@ inputsIn vs =
 unfoldable pub scanAt : List ℕ → ℕ → Part Inputs
 scanAt s at = andNext (shortsAt 11 s at) (λ vs next. whole (inputsIn vs) next)
 
--- the least bytes of a scan, and the most: eleven numbers of one byte, or of three
+-- the least bytes of a scan: eleven numbers of one byte
 abbrev pub leastBytes : ℕ
 leastBytes = 11
-
-abbrev pub scanBytes : ℕ
-scanBytes = 33

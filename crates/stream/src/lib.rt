@@ -6,15 +6,13 @@ use recording::PROGRAM;
 use telling::Phase;
 use telling::Player;
 ghost use mathlib.Core.Path.{_≡_};
-ghost use mathlib.Core.List.{[]};
 ghost use Prim.Native.Nat.{_+_, _≤_, _<_};
 ghost use lib.ListN.{length, take};
 ghost use Rattle.recording.specs.Recording.{programBytes};
-ghost use Rattle.lines.specs.Lines.{lineBytes};
-ghost use Rattle.playback.specs.Playback.{opening, over};
-ghost use Rattle.telling.specs.Answers.{Roomy};
-ghost use Rattle.feeding.specs.Answers.{stageOf};
-ghost use Rattle.stream.specs.Turns.{nothingKept, Closed, Went};
+ghost use Rattle.playback.specs.Playback.{opening};
+ghost use Rattle.telling.specs.Answers.{playerOf, Roomy};
+ghost use Rattle.reading.specs.Reading.{Inside};
+ghost use Rattle.stream.specs.Phases.{isOver};
 
 // The size of a window: longer than anything that is left of one.
 const WINDOW: usize = 32768;
@@ -54,7 +52,7 @@ fn write_out(text: &[u8]) -> bool {
 
 // A recording of which nothing is read.
 fn started() -> Keep
-    ensures { λ r. ⌜ r ≡ nothingKept opening ⌝ }
+    ensures { λ r. ⌜ r ≡ record { player = playerOf opening; kept = 0; to = 0 } ⌝ }
 {
     Keep {
         player: Player::fresh(),
@@ -63,60 +61,30 @@ fn started() -> Keep
     }
 }
 
-// A recording that is read no further.
-fn stopped() -> Keep
-    ensures { λ r. ⌜ r ≡ nothingKept over ⌝ }
+// Reads on behind what is kept, and says so if it could not.
+fn read_on(fd: i32, buf: &mut [u8], kept: usize) -> Input
+    requires { ⌜ kept < length (now buf) ⌝ }
+    ensures { λ r. ⌜ (take kept (now (buf .exit)) ≡ take kept (now (buf .entry))) × Inside kept (now (buf .exit)) r ⌝ }
 {
-    let e = telling::ended(0, 0);
-    let player = e.player;
-    Keep {
-        player,
-        kept: 0,
-        to: 0,
-    }
-}
-
-// The end of the input, where `rest` is left: what there is to say.
-fn close(rest: &[u8], player: Player, text: &mut [u8]) -> Keep
-    requires { ⌜ lineBytes ≤ length (now text) ⌝ }
-    ensures { λ r. ⌜ Closed (stageOf player []) (now (rest .entry)) (now (text .entry)) (now (text .exit)) r ⌝ }
-{
-    let to = feeding::finish(rest, player, text);
-    let e = telling::ended(0, to);
-    let ended = e.player;
-    Keep {
-        player: ended,
-        kept: 0,
-        to,
-    }
-}
-
-// One window: reads it, and feeds it.
-fn turn(fd: i32, buf: &mut [u8], last: Keep, program: &mut [u8], text: &mut [u8]) -> Keep
-    requires { ⌜ (last .kept < length (now buf)) × ((programBytes ≤ length (now program)) × ((last .player .size ≤ length (now program))
-        × Roomy (now buf) (now text))) ⌝ }
-    ensures { λ r. ⌜ Went (stageOf (last .player) (now (program .entry))) (take (last .kept) (now (buf .entry))) (now (buf .exit))
-        (now (program .entry)) (now (program .exit)) (now (text .entry)) (now (text .exit)) r ⌝ }
-{
-    let kept = last.kept;
-    let player = last.player;
     let got = reading::read_behind(fd, buf, kept);
     match got {
         Input::Failed => {
             os::fail(b"cannot read");
-            stopped()
         }
-        Input::End => close(&buf[..kept], player, text),
-        Input::Bytes(n) => keeping::feed_window(buf, kept + n, player, program, text),
+        Input::End | Input::Bytes(_) => {}
     }
+    got
 }
 
 // Whether a run has ended.
-fn is_over(player: Player) -> bool {
+fn is_over(player: Player) -> bool
+    ensures { λ r. ⌜ r ≡ isOver (player .phase) ⌝ }
+{
     let phase = player.phase;
     match phase {
         Phase::Over => true,
-        Phase::Opening | Phase::Playing => false,
+        Phase::Opening => false,
+        Phase::Playing => false,
     }
 }
 
@@ -127,7 +95,9 @@ fn print_recording(fd: i32, buf: &mut [u8], program: &mut [u8], text: &mut [u8])
     let mut k = started();
     let mut left = WINDOWS;
     while 0 < left {
-        k = turn(fd, buf, k, program, text);
+        let kept = k.kept;
+        let got = read_on(fd, buf, kept);
+        k = intake::go_on(got, buf, k, program, text);
         let to = k.to;
         if !write_out(&text[..to]) {
             return;

@@ -12,7 +12,7 @@ use Rattle.image.specs.declared.State.{State}
 use Rattle.scanning.specs.Scan.{Inputs}
 use Rattle.calls.specs.Calls.{scanOf}
 use Rattle.wire.specs.Number.{groupsAt, numberAt}
-use Rattle.recording.specs.Recording.{Part, whole, bad, cut, shortsAt, scanAt, scanBytes}
+use Rattle.recording.specs.Recording.{Part, whole, bad, cut, shortsAt, scanAt}
 use Rattle.recording.proofs.Ends.{Takes, scan-takes}
 use Rattle.recording.proofs.Prefixes.{Stays, scan-stays}
 use Rattle.playback.specs.Playback.{Came, ran, refused, badScan, Stage, playing, Fed, pausing, ending, before}
@@ -111,10 +111,10 @@ module _ (program : List ℕ) where
   unfolding played
   played-join st u v = join-in (length u) (length (u ++ v)) st u v (omega arith) (omega arith)
 
--- what is left is played no further, and is shorter than a scan
+-- what is left is played no further, and is shorter than the longest scan, eleven numbers of three bytes
 pub record Settled (f : Fed) : Type 0 where
   pub rests : fed (f .stage) (f .left) ≡ pausing (f .stage) (f .left)
-  pub short : length (f .left) < scanBytes
+  pub short : length (f .left) < 33
 
 pub end-settled : (c : Came) → Settled (ending c)
 unfolding fed

@@ -1,16 +1,56 @@
 -- `determinacy::one_answer` meets its contract: each contract says that the answer is one definition of the arguments.
-use Prim.Native.Nat.{ℕ}
+use Prim.Native.Nat.{ℕ, _+_}
 use mathlib.Core.Path.{_≡_, refl, sym, ap, _∙_}
 use mathlib.Core.List.{List}
 use native.Mathlib.Omega.{arith}
 use lib.ListN.{length, getD, replicate, length-replicate, getD-replicate}
 use Rattle.determinacy.specs.Determinacy.{Determined, Determinacy}
+use Rattle.playback.specs.Playback.{Stage, Fed}
+use Rattle.reading.specs.declared.Input.{Input}
+use Rattle.reading.specs.declared.Input.the-variants.{Bytes, End, Failed}
+use Rattle.keeping.specs.declared.Keep.{Keep}
+use Rattle.keeping.specs.Keeping.{Kept}
+use Rattle.intake.specs.Intake.{Ended, WentOn, fails, ends, reads}
 use Rattle.io.proofs.buffer.Reads as io-buffer
 use Rattle.determinacy.proofs.one_answer.Statement.{statement}
 use Rattle.determinacy.proofs.one_answer.Tie as tie
 
 same-two : {A B : Type 0} {a b : A} {c d : B} → a ≡ b → c ≡ d → _≡_ {A = A × B} (a, c) (b, d)
 same-two e f = rw (e, f)
+
+-- a window that was fed, and what a read gave: the answer and the three buffers
+abbrev Same : {A B C D : Type 0} → A → A → B → B → C → C → D → D → Type 0
+Same {A} {B} {C} {D} r s a b c d e f = (r ≡ s) × _≡_ {A = B × (C × D)} (a, (c, e)) (b, (d, f))
+
+kept-same : {g : Stage} {f : Fed} {w b p l : List ℕ} {d d' q q' m m' : List ℕ} {r r' : Keep} → Kept g f w b d p q l m r → Kept g f w b d' p q' l m' r' →
+    Same r r' d d' q q' m m'
+kept-same h k =
+    (h .answer ∙ sym (k .answer), same-two (h .buffer ∙ sym (k .buffer)) (same-two (h .program ∙ sym (k .program)) (h .lines ∙ sym (k .lines))))
+
+ended-same : {text b p l : List ℕ} {d d' q q' m m' : List ℕ} {r r' : Keep} → Ended text b d p q l m r → Ended text b d' p q' l m' r' → Same r r' d d' q q' m m'
+ended-same h k =
+    (h .answer ∙ sym (k .answer), same-two (h .buffer ∙ sym (k .buffer)) (same-two (h .program ∙ sym (k .program)) (h .lines ∙ sym (k .lines))))
+
+-- the rows of what a read gave exclude one another
+abbrev row : Input → ℕ
+row Failed = 0
+row End = 1
+row (Bytes n) = 2 + n
+
+rows : {got x y : Input} → got ≡ x → got ≡ y → row x ≡ row y
+rows e f = ap row (sym e ∙ f)
+
+went-same : {got : Input} {g : Stage} {k : ℕ} {b p l : List ℕ} {d d' q q' m m' : List ℕ} {r r' : Keep} →
+    WentOn got g k b d p q l m r → WentOn got g k b d' p q' l m' r' → Same r r' d d' q q' m m'
+went-same (fails e h) (fails f k) = ended-same h k
+went-same (fails e h) (ends f k) = absurd (omega (arith, rows e f))
+went-same (fails e h) (reads n f k) = absurd (omega (arith, rows e f))
+went-same (ends e h) (fails f k) = absurd (omega (arith, rows e f))
+went-same (ends e h) (ends f k) = ended-same h k
+went-same (ends e h) (reads n f k) = absurd (omega (arith, rows e f))
+went-same (reads n e h) (fails f k) = absurd (omega (arith, rows e f))
+went-same (reads n e h) (ends f k) = absurd (omega (arith, rows e f))
+went-same (reads n e h) (reads o f k) = let same : o ≡ n = omega (arith, rows e f) in kept-same h (rw same at k)
 
 -- two buffers of that length that differ
 loose : Determined io-buffer.Learnt → ⊥
@@ -112,9 +152,8 @@ all =
       feeding-finish = λ κ a x y u v h k. (h .place ∙ sym (k .place), h .bytes ∙ sym (k .bytes));
       reading-told-by = λ κ a x y u v h k. cc;
       reading-move-down = λ κ a x y u v h k. (h .0 ∙ sym (k .0), h .1 ∙ sym (k .1));
-      keeping-feed-window =
-          λ κ a x y u v h k.
-          (h .answer ∙ sym (k .answer), same-two (h .buffer ∙ sym (k .buffer)) (same-two (h .program ∙ sym (k .program)) (h .lines ∙ sym (k .lines))));
+      keeping-feed-window = λ κ a x y u v h k. kept-same h k;
+      intake-go-on = λ κ a x y u v h k. went-same h k;
       loose = loose;
     }
 

@@ -6,7 +6,8 @@ use lib.ListN.{length}
 use lib.Seq.{length-take-le}
 use Rattle.recording.specs.Recording.{programBytes}
 use Rattle.keeping.specs.declared.Keep.{Keep}
-use Rattle.stream.proofs.Turns.{roomy-too, went-small}
+use Rattle.intake.proofs.Goes.{went-small}
+use Rattle.stream.proofs.Rooms.{roomy-too}
 use borrow.Author.Needs.{needs}
 use Rattle.stream.proofs.print_recording.Statement.{statement}
 use Rattle.stream.proofs.print_recording.Tie as tie
@@ -26,26 +27,35 @@ loop-holds c =
     let size = ap (λ (k : Keep). k .player .size) e in
     ((refl, (refl, refl)), (omega (arith, kept), omega (arith, size)))
 
-turn-requires : tie.Need-turn-requires Inv-loop μ-loop
-turn-requires c κs =
-    let l = c .before .before .before .before in
+read-on-requires : tie.Need-read-on-requires Inv-loop μ-loop
+read-on-requires c κs =
+    let l = c .before .before in
+    let s = l .before .before .before .before .before in
+    omega (arith, s .pre .0, l .loop .inv .0 .0, l .loop .inv .1 .0)
+
+go-on-requires : tie.Need-go-on-requires Inv-loop μ-loop
+go-on-requires c κs =
+    let r = c .before .before .before .before .before in
+    let l = r .before .before .before in
     let s = l .before .before .before .before .before in
     let inv = l .loop .inv in
-    let roomy = roomy-too (s .args .buf .now) (l .loop .buf) (s .args .text .now) (l .loop .text) (inv .0 .0) (inv .0 .1 .1) (s .pre .1 .1) in
-    (omega (arith, s .pre .0, inv .0 .0, inv .1 .0), (omega (arith, s .pre .1 .0, inv .0 .1 .0), (inv .1 .1, roomy)))
+    let long = r .read-on .kept .1 .0 ∙ inv .0 .0 in
+    let roomy = roomy-too (s .args .buf .now) (r .read-on .last .1 .0) (s .args .text .now) (l .loop .text) long (inv .0 .1 .1) (s .pre .1 .1) in
+    (omega (arith, s .pre .0, long, inv .1 .0), (r .read-on .ensures .1, (omega (arith, s .pre .1 .0, inv .0 .1 .0), (inv .1 .1, roomy))))
 
 within : tie.Need-slice-reshare-prefix-write-out Inv-loop μ-loop
-within c = went-small _ _ _ _ _ _ _ (c .before .before .before .before .before .before .turn .ensures) .1
+within c = went-small (c .before .before .before .before .before .before .go-on .ensures) .1
 
 as-long : tie.Need-slice-aggregate-write-out Inv-loop μ-loop
-as-long c = sym (length-take-le _ _ (went-small _ _ _ _ _ _ _ (c .before .before .before .before .before .before .before .turn .ensures) .1))
+as-long c = sym (length-take-le _ _ (went-small (c .before .before .before .before .before .before .before .go-on .ensures) .1))
 
 loop-again : tie.Need-loop-again Inv-loop μ-loop
 loop-again c =
-    let t = c .before .before .before .before .before .before .before .before .before .before .before .before in
-    let inv = t .before .before .before .before .before .loop .inv in (
-      (t .turn .kept .1 .0 ∙ inv .0 .0, (t .turn .kept .1 .1 .1 .0 ∙ inv .0 .1 .0, t .turn .kept .1 .1 .1 .1 .0 ∙ inv .0 .1 .1)),
-      went-small _ _ _ _ _ _ _ (t .turn .ensures) .0,
+    let g = c .before .before .before .before .before .before .before .before .before .before .before .before in
+    let r = g .before .before .before .before .before .before in
+    let inv = r .before .before .before .loop .inv in (
+      (g .go-on .kept .1 .0 ∙ r .read-on .kept .1 .0 ∙ inv .0 .0, (g .go-on .kept .1 .1 .1 .0 ∙ inv .0 .1 .0, g .go-on .kept .1 .1 .1 .1 .0 ∙ inv .0 .1 .1)),
+      went-small (g .go-on .ensures) .0,
     )
 
 pub print-recording-spec : {M : Type 1} → statement M
@@ -56,7 +66,8 @@ print-recording-spec =
     μ-loop
     (λ c κs. search needs)
     loop-holds
-    turn-requires
+    read-on-requires
+    go-on-requires
     within
     as-long
     (λ c κs. search needs)
