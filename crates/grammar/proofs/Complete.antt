@@ -23,7 +23,6 @@ pub record Goes (st : State) (w : List ℕ) (end : State) : Type 0 where
   pub there : run st w ≡ end
 
 infixr 20 _then_
-
 pub _then_ : {st mid end : State} {a b : List ℕ} → Goes st a mid → Goes mid b end → Goes st (a ++ b) end
 _then_ {st} {a = a} {b = b} x y = record { there = run-append st a b ∙ rw (x .there) (y .there) }
 

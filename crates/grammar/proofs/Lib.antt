@@ -2,3 +2,4 @@ pub mod Unique
 pub mod Complete
 pub mod Sound
 pub mod Places
+pub mod From

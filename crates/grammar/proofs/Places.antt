@@ -171,7 +171,7 @@ stops (x ∷ xs) st p k l e =
       inside = omega arith;
       finished = finishes st l;
       no-more = λ h. d;
-      not-whole = λ w. not-dead w (ap (λ (q : State). run q xs) d ∙ run-dead xs)
+      not-whole = λ w. not-dead w (ap (λ (q : State). run q xs) d ∙ run-dead xs);
     })
     (λ a. let r = stops xs (step st x) (p + 1) k a (sym (live-on (step st x) a _ _) ∙ e) in
     record {
@@ -180,7 +180,7 @@ stops (x ∷ xs) st p k l e =
       inside = omega (arith, r .inside);
       finished = r .finished;
       no-more = λ h. r .no-more (omega arith);
-      not-whole = r .not-whole
+      not-whole = r .not-whole;
     })
     (live-step st x l)
 
@@ -203,7 +203,7 @@ bad-at s k e =
       no-reading = λ t x. r .not-whole (passes x .there);
       within = omega (arith, r .inside);
       same-beginning = begins (take k s) (rw q at (r .finished));
-      no-such-byte = λ h. not-begun (take (k + 1) s) (rw (add-one k, ← q) (r .no-more (omega arith)))
+      no-such-byte = λ h. not-begun (take (k + 1) s) (rw (add-one k, ← q) (r .no-more (omega arith)));
     }
 
 ended-whole : (st : State) (p : ℕ) → ended st p ≡ whole → st ≡ had 0
@@ -227,6 +227,7 @@ judged s = go (from s (want 0) 0) refl
   where
     is-good : Good s → Judged s
     is-good (reading t x) = good t x
+
     go : (r : Seen) → from s (want 0) 0 ≡ r → Judged s
     go whole e = is-good (sound s (to-end s (want 0) 0 tt e))
     go (stop k) e = bad k (bad-at s k e)

@@ -74,7 +74,6 @@ record Goes (st : Builder) (w : List ℕ) (end : Builder) : Type 0 where
   there : run st w ≡ end
 
 infixr 20 _then_
-
 _then_ : {st mid end : Builder} {a b : List ℕ} → Goes st a mid → Goes mid b end → Goes st (a ++ b) end
 _then_ {st} {a = a} {b = b} x y = record { there = run-append st a b ∙ rw (x .there) (y .there) }
 

@@ -1,8 +1,9 @@
 -- Ours, and part of no promise: an acceptor of the same texts, byte by byte. The places of bad bytes are found through it.
 use Prim.Native.Nat.{ℕ, zero, suc, _+_, _*_, _-_}
-use mathlib.Core.List.{List, [], _∷_}
+use mathlib.Core.Path.{_≡_}
+use mathlib.Core.List.{List, [], _∷_, _++_}
 use mathlib.Core.Bool.{Bool, _&&_}
-use lib.ListN.{drop}
+use lib.ListN.{length, drop}
 use lib.Dec.{ltb, leb, eqb}
 use Rattle.terms.specs.Choice.{pick}
 use Rattle.grammar.specs.Grammar.{space, bang, ampersand, opening, closing, letterB, letterI, caret, bar, digit, mostOpen}
@@ -92,3 +93,8 @@ scan st at (x ∷ xs) = alive (step st x) at (scan (step st x) (at + 1) xs)
 -- what becomes of a text from a place on
 unfoldable pub from : List ℕ → State → ℕ → Seen
 from s st at = scan st at (drop at s)
+
+-- the text w stands in s from a place up to another
+pub record Stands (s : List ℕ) (at : ℕ) (w : List ℕ) (next : ℕ) : Type 0 where
+  pub text : drop at s ≡ w ++ drop next s
+  pub end : next ≡ at + length w
