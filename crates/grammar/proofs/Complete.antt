@@ -26,6 +26,11 @@ infixr 20 _then_
 pub _then_ : {st mid end : State} {a b : List ℕ} → Goes st a mid → Goes mid b end → Goes st (a ++ b) end
 _then_ {st} {a = a} {b = b} x y = record { there = run-append st a b ∙ rw (x .there) (y .there) }
 
+pub some-tens : (k : ℕ) → 1 ≤ tens k
+unfolding tens
+some-tens zero = omega arith
+some-tens (suc k) = omega (arith, some-tens k)
+
 -- what a number may still be, in numbers
 pub may-be : (least most k n : ℕ) → mayBe least most k n ≡ true → (n * tens k ≤ most) × (least < n * tens k + tens k)
 unfolding mayBe

@@ -15,7 +15,7 @@ use Rattle.grammar.specs.Machine.{State, dead, step, run, Seen, stop, en
 use Rattle.grammar.proofs.Complete.{Goes}
 use Rattle.grammar.proofs.Places.{scan-on}
 
-le-or-lt : (a b : ℕ) → (a ≤ b) ⊎ (b < a)
+pub le-or-lt : (a b : ℕ) → (a ≤ b) ⊎ (b < a)
 le-or-lt a b = go (leb a b) refl
   where
     go : (t : Bool) → leb a b ≡ t → (a ≤ b) ⊎ (b < a)

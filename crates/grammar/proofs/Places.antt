@@ -15,7 +15,7 @@ use Rattle.numbers.specs.Blocks.{Expr}
 use Rattle.grammar.specs.Grammar.{Formula}
 use Rattle.grammar.specs.Readings.{Begins, goes-on, BadAt, Judged, good, bad}
 use Rattle.grammar.specs.Machine.{State, want, had, banged, digits, dead, tens, mayBe, isDigit, toCome, inNumber, closes, step, run, Seen, whole, stop, ended, alive, scan, from}
-use Rattle.grammar.proofs.Complete.{run-append, Goes, may, may-be, next-digit, passes}
+use Rattle.grammar.proofs.Complete.{run-append, Goes, some-tens, may, may-be, next-digit, passes}
 use Rattle.grammar.proofs.Sound.{Good, reading, sound}
 
 -- dead stays dead
@@ -62,11 +62,6 @@ ends-had (suc d) = one-more 41 refl (ends-had d)
 ends-want : (d : ℕ) → Ends (want d)
 unfolding step
 ends-want d = one-more 48 refl (ends-had d)
-
-some-tens : (k : ℕ) → 1 ≤ tens k
-unfolding tens
-some-tens zero = omega arith
-some-tens (suc k) = omega (arith, some-tens k)
 
 -- what is kept of a state that is not dead: of a number in a name, that it can be finished
 abbrev Live : State → Type 0
