@@ -1,2 +1,4 @@
 pub mod Numbers
 pub mod Spaces
+pub mod Names
+pub mod Signs

@@ -74,7 +74,7 @@ loop-again c =
     record {
       same = sym (goes-on _ (l .p) (l .n) _ _ (l .left) (omega arith) (omega arith) (omega arith) (omega arith) (c .before .before .tens-of .ensures) (c .before .if3 .left) (c .if4 .left)) ∙ l .inv .same;
       few = omega (arith, l .inv .few);
-      small = omega (arith, still-small _ _ _ _ (c .before .before .tens-of .ensures) (c .before .if3 .left))
+      small = omega (arith, still-small _ _ _ _ (c .before .before .tens-of .ensures) (c .before .if3 .left));
     }
 
 returns-5 : tie.Need-returns-5 Inv-loop μ-loop
