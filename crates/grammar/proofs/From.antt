@@ -1,26 +1,17 @@
 -- The acceptor from a place of a text on: over what stands there, one byte on, or no further. Assumes nothing.
 use Prim.Native.Nat.{ℕ, zero, suc, _+_, _<_, _≤_}
 use mathlib.Core.Path.{_≡_, refl, sym, ap, _∙_}
-use mathlib.Core.Bool.{Bool, true, false}
-use mathlib.Core.Logic.{_⊎_, inl, inr, ⊎-elim}
+use mathlib.Core.Logic.{⊎-elim}
 use mathlib.Core.List.{List, [], _∷_, _++_, append-assoc}
 use native.Mathlib.Nat.{add-zero}
 use native.Mathlib.Numerals.{add-one}
 use native.Mathlib.Omega.{arith}
 use lib.ListN.{length, getD, drop, length-append, drop-of-length-le, List·getD-eq-default}
 use lib.Seq.{drop-cons}
-use lib.Dec.{leb}
-use borrow.Author.Tests.{leb-true, leb-false}
+use Rattle.terms.proofs.Choice.{le-or-lt}
 use Rattle.grammar.specs.Machine.{State, dead, step, run, Seen, stop, ended, scan, from, Stands}
 use Rattle.grammar.proofs.Complete.{Goes}
 use Rattle.grammar.proofs.Places.{scan-on}
-
-pub le-or-lt : (a b : ℕ) → (a ≤ b) ⊎ (b < a)
-le-or-lt a b = go (leb a b) refl
-  where
-    go : (t : Bool) → leb a b ≡ t → (a ≤ b) ⊎ (b < a)
-    go true e = inl (leb-true a b e)
-    go false e = inr (leb-false a b e)
 
 module _ (s : List ℕ) where
   -- nothing, one byte, one text after another

@@ -10,11 +10,10 @@ use lib.ListN.{length, getD, drop, length-drop, length-replicate, drop-of-length
 use lib.Seq.{drop-cons, drop-drop, getD-drop}
 use lib.Dec.{eqb}
 use borrow.Author.Tests.{eq-eqb, ne-eqb, eqb-true, eqb-false}
-use Rattle.terms.proofs.Choice.{pick-case}
+use Rattle.terms.proofs.Choice.{pick-case, le-or-lt}
 use Rattle.wire.specs.Number.{byteAt}
 use Rattle.grammar.specs.Grammar.{space, spaces}
 use Rattle.grammar.specs.Machine.{Stands}
-use Rattle.grammar.proofs.From.{le-or-lt}
 use Rattle.spelling.specs.Spelling.{leading, afterSpaces}
 
 -- the spaces that a text begins with, and what is behind them

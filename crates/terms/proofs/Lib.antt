@@ -1,5 +1,6 @@
 pub mod Choice
 pub mod Every
+pub mod Sets
 pub mod Sizes
 pub mod Table
 pub mod Words

@@ -28,3 +28,7 @@ badState = 5
 -- "elapsed would carry the time over 2^64 − 1, or missed is over 2^64 − 33"
 abbrev pub tooFar : ℕ
 tooFar = 6
+
+-- Request L1: "7 bad text"
+abbrev pub badText : ℕ
+badText = 7

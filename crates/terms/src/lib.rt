@@ -17,6 +17,8 @@ pub const BAD_STATE: u8 = 5;
 
 pub const TOO_FAR: u8 = 6;
 
+pub const BAD_TEXT: u8 = 7;
+
 // Held to the range of a word.
 pub fn hold(z: i32) -> i16
     ensures { λ r. ⌜ r ≡ holdWord z ⌝ }

@@ -2,23 +2,18 @@
 use Prim.Native.Nat.{ℕ, zero, suc, _+_, _-_, _/_, _%_, _^_, _≤_, _<_}
 use mathlib.Core.Path.{_≡_, refl, ap, _∙_}
 use mathlib.Core.List.{List, [], _∷_, _++_, append-assoc}
-use native.Mathlib.Nat.{add-zero, pow-suc, one-le-pow, pow-le-pow-right, mod-lt, mod-eq-of-lt}
+use native.Mathlib.Nat.{pow-suc, one-le-pow, pow-le-pow-right, mod-lt, mod-eq-of-lt}
 use native.Mathlib.Omega.{arith, by-contra}
 use lib.ListN.{length, set, length-append}
-use lib.Seq.{sets, length-sets}
+use lib.Seq.{length-sets}
 use lib.Dec.{ltb}
 use borrow.Author.Tests.{lt-ltb, le-ltb}
 use Rattle.terms.proofs.Choice.{pick-case}
+use Rattle.terms.proofs.Sets.{sets-append}
 use Rattle.io.specs.Digits.{glyph, digits, Fewest}
 use Rattle.text.specs.Text.{digitsOf, decimal, Put}
 
 -- a text put right after another
-sets-append : (xs l ys : List ℕ) (i : ℕ) → sets (sets l i xs) (i + length xs) ys ≡ sets l i (xs ++ ys)
-sets-append [] l ys i = rw add-zero
-sets-append (x ∷ xs) l ys i =
-    let e : i + suc (length xs) ≡ suc i + length xs = omega arith in
-    rw e (sets-append xs (set l i x) ys (suc i))
-
 module _ {xs ys l : List ℕ} {i : ℕ} {m : List ℕ} {j : ℕ} {n : List ℕ} {k : ℕ} where
   pub put-then : Put xs l i m j → Put ys m j n k → Put (xs ++ ys) l i n k
   put-then p q =
