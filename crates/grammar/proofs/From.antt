@@ -35,8 +35,11 @@ module _ (s : List ℕ) where
   goes {st} {end} {at} {next} {w} x g live =
       ap (scan st at) (x .text) ∙ scan-on w (drop next s) st end at (g .there) live ∙ rw (x .end) refl
 
-  -- no further: at the end, or at a byte that kills it
+  -- no further: at a byte that kills it, or at the end
+  pub killed : (st : State) (at : ℕ) → at < length s → step st (getD s at 0) ≡ dead → from s st at ≡ stop at
+  unfolding from scan
+  killed st at h e = ap (scan st at) (drop-cons s at 0 h) ∙ rw e
+
   pub halts : (st : State) (at : ℕ) → step st (getD s at 0) ≡ dead → ended st at ≡ stop at → from s st at ≡ stop at
   unfolding from scan
-  halts st at e f =
-      ⊎-elim (λ h. rw (drop-of-length-le s h) f) (λ h. ap (scan st at) (drop-cons s at 0 h) ∙ rw e) (le-or-lt (length s) at)
+  halts st at e f = ⊎-elim (λ h. rw (drop-of-length-le s h) f) (λ h. killed st at h e) (le-or-lt (length s) at)

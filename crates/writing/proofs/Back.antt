@@ -38,7 +38,7 @@ bytes-append [] b = refl
 bytes-append (v ∷ a) b = rw (bytes-append a b, append-assoc (groupsOf 3 v) (bytesOf a) (bytesOf b))
 
 -- a reference in range is the one that its number says
-ref-back : (b : Bit) → InRange b → (bitRef (bitCode b) ≡ b) × (bitCode b < 234)
+pub ref-back : (b : Bit) → InRange b → (bitRef (bitCode b) ≡ b) × (bitCode b < 234)
 unfolding bitRef
 ref-back off h = (refl, omega arith)
 ref-back on h = (refl, omega arith)
