@@ -1,5 +1,5 @@
 -- What each turn of a list's loop comes to: the first item, one more behind an operator, and the end. Assumes nothing.
-use Prim.Native.Nat.{ℕ, suc, _+_, max, _<_, _≤_}
+use Prim.Native.Nat.{ℕ, zero, suc, _+_, max, _<_, _≤_}
 use mathlib.Core.Path.{_≡_, refl, sym, ap, subst, _∙_}
 use mathlib.Core.List.{List, [], _∷_, _++_}
 use native.Mathlib.Omega.{arith}
@@ -13,13 +13,26 @@ use Rattle.grammar.specs.Machine.{want, had, dead, Seen, stop, from, Stands}
 use Rattle.grammar.proofs.Complete.{Goes, passes, sign}
 use Rattle.grammar.proofs.From.{after, goes}
 use Rattle.spelling.specs.declared.Sign.{Sign}
-use Rattle.spelling.specs.declared.Sign.the-variants.{Broken}
-use Rattle.spelling.specs.Spelling.{numberOf, signAt}
+use Rattle.spelling.specs.declared.Sign.the-variants.{Nothing, Broken}
+use Rattle.spelling.specs.Spelling.{numberOf, levelOf, signAt}
 use Rattle.spelling.proofs.Signs.{Signed, sign-broken}
 use Rattle.formula.specs.declared.Piece.{Piece}
 use Rattle.formula.specs.declared.Piece.the-variants.{Read, Bad}
-use Rattle.formula.specs.Parsing.{NoSign, Free, Took, Parses}
+use Rattle.formula.specs.Parsing.{Ready, NoSign, Free, Took, Parses}
 use Rattle.formula.proofs.Trees.{numbers-of, some-nodes, no-deeper, sign-long, reads-long}
+
+-- what a list of a level is made of
+pub made : (level : ℕ) → level < 3 → MadeOf (levelOf level) (levelOf (level + 1))
+made zero h = xorLists
+made (suc zero) h = andLists
+made (suc (suc zero)) h = parts
+made (suc (suc (suc n))) h = absurd (omega arith)
+
+number-back : (level : ℕ) → level < 3 → numberOf (levelOf level) ≡ level
+number-back zero h = refl
+number-back (suc zero) h = refl
+number-back (suc (suc zero)) h = refl
+number-back (suc (suc (suc n))) h = absurd (omega arith)
 
 pub not-want : {d : ℕ} → want d ≡ dead → ⊥
 not-want e = let z : _≡_ {A = ℕ} 0 1 = cc in omega arith
@@ -46,6 +59,9 @@ module _ (s : List ℕ) where
   pub passed : {around : ℕ} {level : Level} {at next : ℕ} {w : List ℕ} {t : Expr} → Stands s at w next → Reads around level w t
       → from s (want around) at ≡ from s (had around) next
   passed x y = goes s x (passes y) not-had
+
+  pub no-sign-of : (level p : ℕ) → level < 3 → signAt level s p ≡ Nothing → NoSign (levelOf level) s p
+  no-sign-of level p h e = rw (number-back level h) e
 
   free-list : {list item : Level} (p : ℕ) → MadeOf list item → Free item s p → NoSign list s p → Free list s p
   free-list p xorLists f n = (f, n)
@@ -117,15 +133,30 @@ module _ (s : List ℕ) where
       pub size : Sized at p n d
       size = sized (g .stands) (g .reads) (g .counted) (g .measured)
 
-      pub breaks : {k : ℕ} → signAt (numberOf list) s p ≡ Broken k → from s (want around) at ≡ stop k
-      breaks {k} e = passed (g .stands) (g .reads) ∙ sign-broken s (numberOf list) p k around e
+      pub breaks : (level : ℕ) {k : ℕ} → signAt level s p ≡ Broken k → from s (want around) at ≡ stop k
+      breaks level {k} e = passed (g .stands) (g .reads) ∙ sign-broken s level p k around e
 
       module _ {o k : ℕ} (x : Signed s list p o k) where
-        pub later : (p < k) × (k ≤ length s)
-        later = (omega (arith, x .stands .end, sign-long (x .sign)), stands-within (x .stands) (g .within))
+        -- the operator's node, and the place for the next item's
+        pub later : Ready s at first → (at + n < k) × Ready s k (first + n + 1)
+        later r =
+            let e = x .stands .end in
+            let b = sign-long (x .sign) in
+            let l = size .long in
+            (omega arith, record { within = stands-within (x .stands) (g .within); behind = omega (arith, r .behind) })
 
         pub reaches : from s (want around) at ≡ from s (want around) k
         reaches = passed (g .stands) (g .reads) ∙ goes s (x .stands) (sign around (x .sign)) not-want
+
+        -- the sizes with one item more
+        pub sums :
+            {i j : List ℕ} {q b e : ℕ} → Ready s at first → Took s around item k (first + n + 1) i j q b e →
+            (n + (b + 1) ≤ length s) × ((max d e < length s) × (p < q))
+        sums r h =
+            let z = sized (h .stands) (h .reads) (h .counted) (h .measured) in
+            let o = later r in
+            let y = size in
+            (omega (arith, o .0, h .within), (omega (arith, o .0, h .within), omega (arith, x .stands .end, sign-long (x .sign))))
 
         -- one item more
         pub goes-on :

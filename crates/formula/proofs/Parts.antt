@@ -22,9 +22,9 @@ use Rattle.spelling.specs.Spelling.{nameAt}
 use Rattle.spelling.proofs.Names.{Called, name-bad}
 use Rattle.spelling.proofs.Signs.{no-sign}
 use Rattle.spelling.proofs.Spaces.{Skipped}
-use Rattle.formula.specs.Parsing.{NoSpace, Took}
+use Rattle.formula.specs.Parsing.{Ready, NoSpace, Took}
 use Rattle.formula.proofs.Trees.{name-long, name-proper, nots, zeros, zeros-then, nots-numbers, nots-nodes, nots-depth}
-use Rattle.formula.proofs.Lists.{not-want, not-had, stands-within, passed}
+use Rattle.formula.proofs.Lists.{not-want, stands-within, passed, sized}
 
 -- a part has no items
 abbrev Items : Level → Type 0
@@ -173,3 +173,21 @@ module _ (s : List ℕ) where
 
   pub called-long : {p r next : ℕ} → Called s p r next → p < next
   called-long x = omega (arith, x .stands .end, name-long (x .name))
+
+  module _ {around at first : ℕ} {l m : List ℕ} {p n b : ℕ} (g : Nots around at first l m p n b) where
+    -- the places for nodes, and the sizes, fit the text
+    pub nots-fit : Ready s at first → first + n ≤ length s
+    nots-fit r = omega (arith, g .few, g .within, r .behind)
+
+    pub inner-ready : p < length s → Ready s at first → (at < p + 1) × Ready s (p + 1) (first + n)
+    inner-ready h r = (omega (arith, g .few), record { within = omega arith; behind = omega (arith, g .few, r .behind) })
+
+    pub inner-fits :
+        {m′ : List ℕ} {next count deep : ℕ} → Took s (around + 1) orList (p + 1) (first + n) m m′ next count deep →
+        (n + count ≤ length s) × (n + deep ≤ length s)
+    inner-fits x =
+        let z = sized s (x .stands) (x .reads) (x .counted) (x .measured) in
+        (omega (arith, z .long, g .few, x .within), omega (arith, z .long, z .flat, g .few, x .within))
+
+    pub name-fits : {r next : ℕ} → Called s p r next → n + 1 ≤ length s
+    name-fits x = omega (arith, called-long x, stands-within s (x .stands) (g .within), g .few)

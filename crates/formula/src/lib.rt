@@ -5,6 +5,7 @@ use spelling::Sign;
 ghost use mathlib.Core.Path.{_≡_};
 ghost use Prim.Native.Nat.{suc, max, _<_};
 ghost use Rattle.grammar.specs.Grammar.{orList, xorList, andList, part};
+ghost use Rattle.spelling.specs.Spelling.{levelOf};
 ghost use Rattle.formula.specs.Answers.{Lists, Answers, listedBad, refused};
 ghost use Rattle.formula.specs.Parsing.{Ready, Parses};
 
@@ -81,44 +82,7 @@ fn and_list(text: &[u8], at: usize, around: u8, nodes: &mut [u8; PLACES], first:
     requires { ⌜ Ready (now text) at first ⌝ }
     ensures { λ r. ⌜ Parses (now (text .entry)) around andList at first (now (nodes .entry)) (now (nodes .exit)) r ⌝ }
 {
-    let one = part(text, at, around, nodes, first);
-    match one {
-        Piece::Bad(k) => Piece::Bad(k),
-        Piece::Read { next, count, deep } => {
-            let mut p = next;
-            let mut n = count;
-            let mut d = deep;
-            loop {
-                let g = spelling::read_sign(text, p, spelling::AND_LIST);
-                match g {
-                    Sign::Nothing => {
-                        return Piece::Read {
-                            next: p,
-                            count: n,
-                            deep: d,
-                        };
-                    }
-                    Sign::Broken(k) => return Piece::Bad(k),
-                    Sign::Of(o, k) => {
-                        nodelist::insert(nodes, first, n, o);
-                        let item = part(text, k, around, nodes, first + n + 1);
-                        match item {
-                            Piece::Bad(j) => return Piece::Bad(j),
-                            Piece::Read {
-                                next: q,
-                                count: m,
-                                deep: e,
-                            } => {
-                                p = q;
-                                n += m + 1;
-                                d = over(d, e);
-                            }
-                        }
-                    }
-                }
-            }
-        }
-    }
+    list(text, at, around, nodes, first, spelling::AND_LIST)
 }
 
 // And-lists between `^`.
@@ -126,44 +90,7 @@ fn xor_list(text: &[u8], at: usize, around: u8, nodes: &mut [u8; PLACES], first:
     requires { ⌜ Ready (now text) at first ⌝ }
     ensures { λ r. ⌜ Parses (now (text .entry)) around xorList at first (now (nodes .entry)) (now (nodes .exit)) r ⌝ }
 {
-    let one = and_list(text, at, around, nodes, first);
-    match one {
-        Piece::Bad(k) => Piece::Bad(k),
-        Piece::Read { next, count, deep } => {
-            let mut p = next;
-            let mut n = count;
-            let mut d = deep;
-            loop {
-                let g = spelling::read_sign(text, p, spelling::XOR_LIST);
-                match g {
-                    Sign::Nothing => {
-                        return Piece::Read {
-                            next: p,
-                            count: n,
-                            deep: d,
-                        };
-                    }
-                    Sign::Broken(k) => return Piece::Bad(k),
-                    Sign::Of(o, k) => {
-                        nodelist::insert(nodes, first, n, o);
-                        let item = and_list(text, k, around, nodes, first + n + 1);
-                        match item {
-                            Piece::Bad(j) => return Piece::Bad(j),
-                            Piece::Read {
-                                next: q,
-                                count: m,
-                                deep: e,
-                            } => {
-                                p = q;
-                                n += m + 1;
-                                d = over(d, e);
-                            }
-                        }
-                    }
-                }
-            }
-        }
-    }
+    list(text, at, around, nodes, first, spelling::XOR_LIST)
 }
 
 // Xor-lists between `|` and `!|`.
@@ -171,7 +98,44 @@ fn or_list(text: &[u8], at: usize, around: u8, nodes: &mut [u8; PLACES], first: 
     requires { ⌜ Ready (now text) at first ⌝ }
     ensures { λ r. ⌜ Parses (now (text .entry)) around orList at first (now (nodes .entry)) (now (nodes .exit)) r ⌝ }
 {
-    let one = xor_list(text, at, around, nodes, first);
+    list(text, at, around, nodes, first, spelling::OR_LIST)
+}
+
+// A list, or a part, by its level.
+fn by_level(
+    text: &[u8],
+    at: usize,
+    around: u8,
+    nodes: &mut [u8; PLACES],
+    first: usize,
+    level: u8,
+) -> Piece
+    requires { ⌜ Ready (now text) at first ⌝ }
+    requires { ⌜ level < 4 ⌝ }
+    ensures { λ r. ⌜ Parses (now (text .entry)) around (levelOf level) at first (now (nodes .entry)) (now (nodes .exit)) r ⌝ }
+{
+    match level {
+        spelling::OR_LIST => or_list(text, at, around, nodes, first),
+        spelling::XOR_LIST => xor_list(text, at, around, nodes, first),
+        spelling::AND_LIST => and_list(text, at, around, nodes, first),
+        _ => part(text, at, around, nodes, first),
+    }
+}
+
+// A list of a level: its items are of the next, and what stands before an operator is grouped before what stands behind it.
+fn list(
+    text: &[u8],
+    at: usize,
+    around: u8,
+    nodes: &mut [u8; PLACES],
+    first: usize,
+    level: u8,
+) -> Piece
+    requires { ⌜ Ready (now text) at first ⌝ }
+    requires { ⌜ level < 3 ⌝ }
+    ensures { λ r. ⌜ Parses (now (text .entry)) around (levelOf level) at first (now (nodes .entry)) (now (nodes .exit)) r ⌝ }
+{
+    let one = by_level(text, at, around, nodes, first, level + 1);
     match one {
         Piece::Bad(k) => Piece::Bad(k),
         Piece::Read { next, count, deep } => {
@@ -179,7 +143,7 @@ fn or_list(text: &[u8], at: usize, around: u8, nodes: &mut [u8; PLACES], first: 
             let mut n = count;
             let mut d = deep;
             loop {
-                let g = spelling::read_sign(text, p, spelling::OR_LIST);
+                let g = spelling::read_sign(text, p, level);
                 match g {
                     Sign::Nothing => {
                         return Piece::Read {
@@ -191,7 +155,7 @@ fn or_list(text: &[u8], at: usize, around: u8, nodes: &mut [u8; PLACES], first: 
                     Sign::Broken(k) => return Piece::Bad(k),
                     Sign::Of(o, k) => {
                         nodelist::insert(nodes, first, n, o);
-                        let item = xor_list(text, k, around, nodes, first + n + 1);
+                        let item = by_level(text, k, around, nodes, first + n + 1, level + 1);
                         match item {
                             Piece::Bad(j) => return Piece::Bad(j),
                             Piece::Read {

@@ -15,7 +15,7 @@ use Rattle.grammar.specs.Machine.{State, want, had, banged, dead, closes, step,
 use Rattle.grammar.proofs.From.{byte, after, there, halts}
 use Rattle.spelling.specs.declared.Sign.{Sign}
 use Rattle.spelling.specs.declared.Sign.the-variants.{Of, Nothing, Broken}
-use Rattle.spelling.specs.Spelling.{numberOf, ofLevel, bangedAt, signAt}
+use Rattle.spelling.specs.Spelling.{numberOf, levelOf, ofLevel, bangedAt, signAt}
 use Rattle.spelling.proofs.Names.{eats}
 
 -- an operator at a place, of the list that it belongs to
@@ -24,34 +24,24 @@ pub record Signed (s : List ℕ) (list : Level) (at o next : ℕ) : Type 0 where
   pub sign : Operator list o text
   pub stands : Stands s at text next
 
--- the level looked for is the operator's
-levelAt : ℕ → Level
-levelAt zero = orList
-levelAt (suc zero) = xorList
-levelAt (suc (suc zero)) = andList
-levelAt (suc (suc (suc n))) = part
-
-level-back : (l : Level) → levelAt (numberOf l) ≡ l
-unfolding levelAt
+level-back : (l : Level) → levelOf (numberOf l) ≡ l
 level-back orList = refl
 level-back xorList = refl
 level-back andList = refl
 level-back part = refl
 
-same-level : (l m : Level) → eqb (numberOf l) (numberOf m) ≡ true → m ≡ l
-same-level l m e = sym (level-back m) ∙ ap levelAt (sym (eqb-true (numberOf l) (numberOf m) e)) ∙ level-back l
-
-module _ (s : List ℕ) (list : Level) (at o next : ℕ) where
-  -- an operator of one level
+module _ (s : List ℕ) (level at o next : ℕ) where
+  -- the level looked for is the operator's
   of-level :
-      (its : Level) (op end : ℕ) (w : List ℕ) → Operator its op w → Stands s at w end → ofLevel (numberOf list) (numberOf its) op end ≡ Of o next →
-      Signed s list at o next
+      (its : Level) (op end : ℕ) (w : List ℕ) → Operator its op w → Stands s at w end → ofLevel level (numberOf its) op end ≡ Of o next →
+      Signed s (levelOf level) at o next
   of-level its op end w x st =
-      pick-case (λ (r : Sign). r ≡ Of o next → Signed s list at o next) (eqb (numberOf list) (numberOf its))
+      pick-case (λ (r : Sign). r ≡ Of o next → Signed s (levelOf level) at o next) (eqb level (numberOf its))
       (λ e f.
       let a : op ≡ o = cc in
       let b : end ≡ next = cc in
-      record { text = w; sign = rw (← (same-level list its e), ← a) x; stands = rw (← b) st })
+      let c : its ≡ levelOf level = sym (ap levelOf (eqb-true level (numberOf its) e) ∙ level-back its) in
+      record { text = w; sign = rw (← c, ← a) x; stands = rw (← b) st })
       (λ _ f. let z : _≡_ {A = ℕ} 0 1 = cc in absurd (omega arith))
 
   one-byte : (x : ℕ) → 0 < x → byteAt s at ≡ x → Stands s at (x ∷ []) (at + 1)
@@ -60,10 +50,10 @@ module _ (s : List ℕ) (list : Level) (at o next : ℕ) where
   two-bytes : (x : ℕ) → 0 < x → byteAt s at ≡ 33 → byteAt s (at + 1) ≡ x → Stands s at (33 ∷ (x ∷ [])) (at + 1 + 1)
   two-bytes x h e f = after s (one-byte 33 (omega arith) e) (byte s (at + 1) x (there s (at + 1) x h f) f)
 
-  pub sign-of : signAt (numberOf list) s at ≡ Of o next → Signed s list at o next
+  pub sign-of : signAt level s at ≡ Of o next → Signed s (levelOf level) at o next
   unfolding signAt bangedAt
   sign-of =
-      let P : Sign → Type 0 = λ r. r ≡ Of o next → Signed s list at o next in
+      let P : Sign → Type 0 = λ r. r ≡ Of o next → Signed s (levelOf level) at o next in
       let b = byteAt s at in
       let c = byteAt s (at + 1) in
       pick-case P (eqb b 38) (λ e. of-level andList 1 (at + 1) (38 ∷ []) and-sign (one-byte 38 (omega arith) (eqb-true b 38 e)))

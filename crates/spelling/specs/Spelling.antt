@@ -45,12 +45,18 @@ nameAt s at =
     (pick (eqb (byteAt s at) letterB) (named 34 (digitsAt 3 0 0 199 s (at + 1)))
     (NoName at))))
 
--- the levels by number, as the code has them
+-- the levels by number, as the code has them, and back
 abbrev pub numberOf : Level → ℕ
 numberOf orList = 0
 numberOf xorList = 1
 numberOf andList = 2
 numberOf part = 3
+
+abbrev pub levelOf : ℕ → Level
+levelOf zero = orList
+levelOf (suc zero) = xorList
+levelOf (suc (suc zero)) = andList
+levelOf (suc (suc (suc n))) = part
 
 -- an operator of one level where one of another is looked for
 abbrev pub ofLevel : ℕ → ℕ → ℕ → ℕ → Sign
