@@ -1,4 +1,1 @@
-pub mod Trees
-pub mod Lists
-pub mod Parts
-pub mod Wholes
+pub mod Bounds

@@ -1,7 +1,7 @@
 -- `formula::read_formula` meets its contract.
 use native.Mathlib.Omega.{arith}
 use borrow.Author.Needs.{needs}
-use Rattle.formula.proofs.Wholes.{treed, bad-text, too-many, too-deep, small}
+use Rattle.formula.proofs.Bounds.{treed, bad-text, too-many, too-deep, small}
 use Rattle.formula.proofs.read_formula.Statement.{statement}
 use Rattle.formula.proofs.read_formula.Tie as tie
 

@@ -16,10 +16,10 @@ use Rattle.spelling.specs.declared.Sign.{Sign}
 use Rattle.spelling.specs.declared.Sign.the-variants.{Nothing, Broken}
 use Rattle.spelling.specs.Spelling.{numberOf, levelOf, signAt}
 use Rattle.spelling.proofs.Signs.{Signed, sign-broken}
-use Rattle.formula.specs.declared.Piece.{Piece}
-use Rattle.formula.specs.declared.Piece.the-variants.{Read, Bad}
-use Rattle.formula.specs.Parsing.{Ready, NoSign, Free, Took, Parses}
-use Rattle.formula.proofs.Trees.{numbers-of, some-nodes, no-deeper, sign-long, reads-long}
+use Rattle.parsing.specs.declared.Piece.{Piece}
+use Rattle.parsing.specs.declared.Piece.the-variants.{Read, Bad}
+use Rattle.parsing.specs.Parsing.{Ready, NoSign, Free, Took, Parses}
+use Rattle.parsing.proofs.Trees.{numbers-of, some-nodes, no-deeper, sign-long, reads-long}
 
 -- what a list of a level is made of
 pub made : (level : ℕ) → level < 3 → MadeOf (levelOf level) (levelOf (level + 1))

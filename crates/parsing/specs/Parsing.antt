@@ -11,8 +11,8 @@ use Rattle.grammar.specs.Grammar.{space, Level, orList, xorList, andList, part,
 use Rattle.grammar.specs.Machine.{want, stop, from, Stands}
 use Rattle.spelling.specs.declared.Sign.the-variants.{Nothing}
 use Rattle.spelling.specs.Spelling.{numberOf, signAt}
-use Rattle.formula.specs.declared.Piece.{Piece}
-use Rattle.formula.specs.declared.Piece.the-variants.{Read, Bad}
+use Rattle.parsing.specs.declared.Piece.{Piece}
+use Rattle.parsing.specs.declared.Piece.the-variants.{Read, Bad}
 
 -- a place of the text, and one for the next node that is no further
 pub record Ready (s : List ℕ) (at first : ℕ) : Type 0 where

@@ -22,9 +22,9 @@ use Rattle.spelling.specs.Spelling.{nameAt}
 use Rattle.spelling.proofs.Names.{Called, name-bad}
 use Rattle.spelling.proofs.Signs.{no-sign}
 use Rattle.spelling.proofs.Spaces.{Skipped}
-use Rattle.formula.specs.Parsing.{Ready, NoSpace, Took}
-use Rattle.formula.proofs.Trees.{name-long, name-proper, nots, zeros, zeros-then, nots-numbers, nots-nodes, nots-depth}
-use Rattle.formula.proofs.Lists.{not-want, stands-within, passed, sized}
+use Rattle.parsing.specs.Parsing.{Ready, NoSpace, Took}
+use Rattle.parsing.proofs.Trees.{name-long, name-proper, nots, zeros, zeros-then, nots-numbers, nots-nodes, nots-depth}
+use Rattle.parsing.proofs.Lists.{not-want, stands-within, passed, sized}
 
 -- a part has no items
 abbrev Items : Level → Type 0

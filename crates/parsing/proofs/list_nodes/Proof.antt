@@ -4,10 +4,10 @@ use mathlib.Core.Path.{sym, _∙_}
 use native.Mathlib.Omega.{arith}
 use borrow.Author.Needs.{needs}
 use Rattle.grammar.specs.Grammar as g
-use Rattle.formula.proofs.Lists.{took, stopped}
-use Rattle.formula.proofs.Wholes.{lists-bad, lists-more, lists-all}
-use Rattle.formula.proofs.list_nodes.Statement.{statement}
-use Rattle.formula.proofs.list_nodes.Tie as tie
+use Rattle.parsing.proofs.Lists.{took, stopped}
+use Rattle.parsing.proofs.Wholes.{lists-bad, lists-more, lists-all}
+use Rattle.parsing.proofs.list_nodes.Statement.{statement}
+use Rattle.parsing.proofs.list_nodes.Tie as tie
 
 returns : tie.Need-returns
 returns c =

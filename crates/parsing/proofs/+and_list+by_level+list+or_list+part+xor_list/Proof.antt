@@ -11,38 +11,38 @@ use Rattle.spelling.specs.Spelling.{levelOf}
 use Rattle.spelling.proofs.Names.{name-good}
 use Rattle.spelling.proofs.Signs.{sign-of}
 use Rattle.spelling.proofs.Spaces.{skipped, skipped-within}
-use Rattle.formula.proofs.Lists.{made, took, stopped, no-sign-of, Going, begins, ends, breaks, later, reaches, sums, goes-on}
-use Rattle.formula.proofs.Parts.{Nots, no-nots, nots-fit, inside, one-not, too-many, inner-ready, inner-fits, into, unclosed, closed, called, called-small, name-fits, uncalled}
+use Rattle.parsing.proofs.Lists.{made, took, stopped, no-sign-of, Going, begins, ends, breaks, later, reaches, sums, goes-on}
+use Rattle.parsing.proofs.Parts.{Nots, no-nots, nots-fit, inside, one-not, too-many, inner-ready, inner-fits, into, unclosed, closed, called, called-small, name-fits, uncalled}
 use Prim.Native.Nat.{ℕ, _<_}
 use borrow.Fn.Kinds.{In}
 use borrow.Fn.PlainCycle.{Measures, is, falls, and}
-use Rattle.formula.proofs.and_list.Reads as and-list
-use Rattle.formula.proofs.and_list.Kinds as and-list-kinds
-use Rattle.formula.proofs.+and_list+by_level+list+or_list+part+xor_list.Lts-and_list as and-list-lts
-use Rattle.formula.proofs.by_level.Reads as by-level
-use Rattle.formula.proofs.by_level.Kinds as by-level-kinds
-use Rattle.formula.proofs.+and_list+by_level+list+or_list+part+xor_list.Lts-by_level as by-level-lts
-use Rattle.formula.proofs.list.Reads as list
-use Rattle.formula.proofs.list.Kinds as list-kinds
-use Rattle.formula.proofs.+and_list+by_level+list+or_list+part+xor_list.Lts-list as list-lts
-use Rattle.formula.proofs.or_list.Reads as or-list
-use Rattle.formula.proofs.or_list.Kinds as or-list-kinds
-use Rattle.formula.proofs.+and_list+by_level+list+or_list+part+xor_list.Lts-or_list as or-list-lts
-use Rattle.formula.proofs.part.Reads as part
-use Rattle.formula.proofs.part.Kinds as part-kinds
-use Rattle.formula.proofs.+and_list+by_level+list+or_list+part+xor_list.Lts-part as part-lts
-use Rattle.formula.proofs.xor_list.Reads as xor-list
-use Rattle.formula.proofs.xor_list.Kinds as xor-list-kinds
-use Rattle.formula.proofs.+and_list+by_level+list+or_list+part+xor_list.Lts-xor_list as xor-list-lts
-use Rattle.formula.proofs.over.Reads as over-reads
+use Rattle.parsing.proofs.and_list.Reads as and-list
+use Rattle.parsing.proofs.and_list.Kinds as and-list-kinds
+use Rattle.parsing.proofs.+and_list+by_level+list+or_list+part+xor_list.Lts-and_list as and-list-lts
+use Rattle.parsing.proofs.by_level.Reads as by-level
+use Rattle.parsing.proofs.by_level.Kinds as by-level-kinds
+use Rattle.parsing.proofs.+and_list+by_level+list+or_list+part+xor_list.Lts-by_level as by-level-lts
+use Rattle.parsing.proofs.list.Reads as list
+use Rattle.parsing.proofs.list.Kinds as list-kinds
+use Rattle.parsing.proofs.+and_list+by_level+list+or_list+part+xor_list.Lts-list as list-lts
+use Rattle.parsing.proofs.or_list.Reads as or-list
+use Rattle.parsing.proofs.or_list.Kinds as or-list-kinds
+use Rattle.parsing.proofs.+and_list+by_level+list+or_list+part+xor_list.Lts-or_list as or-list-lts
+use Rattle.parsing.proofs.part.Reads as part
+use Rattle.parsing.proofs.part.Kinds as part-kinds
+use Rattle.parsing.proofs.+and_list+by_level+list+or_list+part+xor_list.Lts-part as part-lts
+use Rattle.parsing.proofs.xor_list.Reads as xor-list
+use Rattle.parsing.proofs.xor_list.Kinds as xor-list-kinds
+use Rattle.parsing.proofs.+and_list+by_level+list+or_list+part+xor_list.Lts-xor_list as xor-list-lts
+use Rattle.parsing.proofs.over.Reads as over-reads
 use Rattle.nodelist.proofs.insert.Reads as insert-reads
 use Rattle.nodelist.proofs.put.Reads as put-reads
 use Rattle.spelling.proofs.byte_at.Reads as byte-at-reads
 use Rattle.spelling.proofs.read_name.Reads as read-name-reads
 use Rattle.spelling.proofs.read_sign.Reads as read-sign-reads
 use Rattle.spelling.proofs.skip_spaces.Reads as skip-spaces-reads
-use Rattle.formula.proofs.+and_list+by_level+list+or_list+part+xor_list.{statement}
-use Rattle.formula.proofs.+and_list+by_level+list+or_list+part+xor_list.Tie.{close}
+use Rattle.parsing.proofs.+and_list+by_level+list+or_list+part+xor_list.{statement}
+use Rattle.parsing.proofs.+and_list+by_level+list+or_list+part+xor_list.Tie.{close}
 
 abbrev μ-and-list : Measures 2 and-list-kinds.ps ℕ
 μ-and-list κs a = 11 * (length (a .0 .now) - a .1 .0) + 3

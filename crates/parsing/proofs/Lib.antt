@@ -1,0 +1,4 @@
+pub mod Trees
+pub mod Lists
+pub mod Parts
+pub mod Wholes
