@@ -5,7 +5,7 @@ ghost use Rattle.image.specs.Image.{imageOf};
 ghost use Rattle.image.specs.Lent.{before, after};
 ghost use Rattle.image.specs.State.{freshState};
 ghost use Rattle.calls.specs.InPlace.{scannedIn, afterScan, takenIn, afterTake};
-ghost use Rattle.lanwezik.specs.Answers.{acceptance, scanned, given, inputsOf};
+ghost use Rattle.lanwezik.specs.Answers.{acceptance, scanned, given, inputsOf, Formulas};
 
 // Number of refusal and place, memory and step figure.
 #[repr(C)]
@@ -41,6 +41,15 @@ pub struct Given {
     pub found: u32,
     pub number: u32,
     pub time: u64,
+}
+
+// Number of refusal, and how many node numbers there are; place; the node numbers, operator first, and zeros behind them.
+#[repr(C)]
+pub struct Expression {
+    pub refusal: u32,
+    pub count: u32,
+    pub place: u64,
+    pub nodes: [u8; 64],
 }
 
 #[no_mangle]
@@ -131,5 +140,19 @@ pub extern "C" fn lanwezik_take_in(
         found: a.found as u32,
         number: e.number as u32,
         time: t.time,
+    }
+}
+
+#[no_mangle]
+pub extern "C" fn lanwezik_formula(text: &[u8]) -> Expression
+    ensures { λ r. ⌜ Formulas (now (text .entry)) r ⌝ }
+{
+    let a = formula::read_formula(text);
+    let list = a.nodes;
+    Expression {
+        refusal: a.refusal as u32,
+        count: a.count as u32,
+        place: a.place as u64,
+        nodes: list,
     }
 }
