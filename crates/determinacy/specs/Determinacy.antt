@@ -53,6 +53,14 @@ use Rattle.copies.proofs.store_outputs.Reads as copies-store-outputs
 use Rattle.numbers.proofs.read_number.Reads as numbers-read-number
 use Rattle.nodes.proofs.head.Reads as nodes-head
 use Rattle.nodes.proofs.pass.Reads as nodes-pass
+use Rattle.spelling.proofs.byte_at.Reads as spelling-byte-at
+use Rattle.spelling.proofs.skip_spaces.Reads as spelling-skip-spaces
+use Rattle.spelling.proofs.read_name.Reads as spelling-read-name
+use Rattle.spelling.proofs.read_sign.Reads as spelling-read-sign
+use Rattle.nodelist.proofs.put.Reads as nodelist-put
+use Rattle.nodelist.proofs.insert.Reads as nodelist-insert
+use Rattle.parsing.proofs.list_nodes.Reads as parsing-list-nodes
+use Rattle.formula.proofs.read_formula.Reads as formula-read-formula
 use Rattle.kinds.proofs.memory_of.Reads as kinds-memory-of
 use Rattle.kinds.proofs.figure_of.Reads as kinds-figure-of
 use Rattle.kinds.proofs.mark_of.Reads as kinds-mark-of
@@ -75,6 +83,7 @@ use Rattle.states.proofs.state_in.Reads as states-state-in
 use Rattle.hall.proofs.scan.Reads as hall-scan
 use Rattle.hall.proofs.take.Reads as hall-take
 use Rattle.lanwezik.proofs.lanwezik_accept.Reads as lanwezik-accept
+use Rattle.lanwezik.proofs.lanwezik_formula.Reads as lanwezik-formula
 use Rattle.lanwezik.proofs.lanwezik_fresh_in.Reads as lanwezik-fresh-in
 use Rattle.lanwezik.proofs.lanwezik_scan_in.Reads as lanwezik-scan-in
 use Rattle.lanwezik.proofs.lanwezik_take_in.Reads as lanwezik-take-in
@@ -169,6 +178,14 @@ pub record Determinacy : Type 0 where
   pub numbers-read-number : Determined numbers-read-number.Learnt
   pub nodes-head : Determined nodes-head.Learnt
   pub nodes-pass : Determined nodes-pass.Learnt
+  pub spelling-byte-at : Determined spelling-byte-at.Learnt
+  pub spelling-skip-spaces : Determined spelling-skip-spaces.Learnt
+  pub spelling-read-name : Determined spelling-read-name.Learnt
+  pub spelling-read-sign : Determined spelling-read-sign.Learnt
+  pub nodelist-put : DeterminedWith (λ κ u. now (u .0)) nodelist-put.Learnt
+  pub nodelist-insert : DeterminedWith (λ κ u. now (u .0)) nodelist-insert.Learnt
+  pub parsing-list-nodes : Determined parsing-list-nodes.Learnt
+  pub formula-read-formula : Determined formula-read-formula.Learnt
   pub kinds-memory-of : Determined kinds-memory-of.Learnt
   pub kinds-figure-of : Determined kinds-figure-of.Learnt
   pub kinds-mark-of : Determined kinds-mark-of.Learnt
@@ -194,6 +211,7 @@ pub record Determinacy : Type 0 where
   pub lanwezik-fresh-in : DeterminedWith (λ κ u. imageFrom u) lanwezik-fresh-in.Learnt
   pub lanwezik-scan-in : DeterminedWith (λ κ u. imageFrom (u .1)) lanwezik-scan-in.Learnt
   pub lanwezik-take-in : DeterminedWith (λ κ u. imageFrom u) lanwezik-take-in.Learnt
+  pub lanwezik-formula : Determined lanwezik-formula.Learnt
   pub text-put : DeterminedWith (λ κ u. now (u .0)) text-put.Learnt
   pub text-put-number : DeterminedWith (λ κ u. now (u .0)) text-put-number.Learnt
   pub lines-write-line : DeterminedWith (λ κ u. now (u .0)) lines-write-line.Learnt

@@ -5,6 +5,13 @@ use mathlib.Core.List.{List}
 use native.Mathlib.Omega.{arith}
 use lib.ListN.{length, getD, replicate, length-replicate, getD-replicate}
 use Rattle.determinacy.specs.Determinacy.{Determined, Determinacy}
+use Rattle.grammar.proofs.Unique.{one-reading}
+use Rattle.grammar.proofs.Places.{one-place}
+use Rattle.parsing.specs.declared.Listed.{Listed}
+use Rattle.parsing.specs.Listing.{listedTree, listedBad, Lists, lists, lists-none}
+use Rattle.typed.proofs.Answering.{one-answer}
+use Rattle.lanwezik.specs.declared.Expression.{Expression}
+use Rattle.lanwezik.specs.Answers.{expression, Formulas, formulas}
 use Rattle.playback.specs.Playback.{Stage, Fed}
 use Rattle.reading.specs.declared.Input.{Input}
 use Rattle.reading.specs.declared.Input.the-variants.{Bytes, End, Failed}
@@ -51,6 +58,16 @@ went-same (ends e h) (reads n f k) = absurd (omega (arith, rows e f))
 went-same (reads n e h) (fails f k) = absurd (omega (arith, rows e f))
 went-same (reads n e h) (ends f k) = absurd (omega (arith, rows e f))
 went-same (reads n e h) (reads o f k) = let same : o ≡ n = omega (arith, rows e f) in kept-same h (rw same at k)
+
+-- the rows of a text exclude one another too
+listed-same : (s : List ℕ) {q r : Listed} → Lists s q → Lists s r → q ≡ r
+listed-same s (lists t x) (lists u y) = ap listedTree (one-reading s t u x y)
+listed-same s (lists t x) (lists-none k y) = absurd (y .no-reading t x)
+listed-same s (lists-none k x) (lists u y) = absurd (x .no-reading u y)
+listed-same s (lists-none j x) (lists-none k y) = ap listedBad (one-place s j k x y)
+
+formulas-same : (s : List ℕ) {q r : Expression} → Formulas s q → Formulas s r → q ≡ r
+formulas-same s (formulas a x) (formulas b y) = ap expression (one-answer s a b x y)
 
 -- two buffers of that length that differ
 loose : Determined io-buffer.Learnt → ⊥
@@ -109,6 +126,14 @@ all =
       numbers-read-number = λ κ a x y u v h k. cc;
       nodes-head = λ κ a x y u v h k. cc;
       nodes-pass = λ κ a x y u v h k. cc;
+      spelling-byte-at = λ κ a x y u v h k. cc;
+      spelling-skip-spaces = λ κ a x y u v h k. cc;
+      spelling-read-name = λ κ a x y u v h k. cc;
+      spelling-read-sign = λ κ a x y u v h k. cc;
+      nodelist-put = λ κ a x y u v h k. (refl, h ∙ sym k);
+      nodelist-insert = λ κ a x y u v h k. (refl, h ∙ sym k);
+      parsing-list-nodes = λ κ a x y u v h k. listed-same _ h k;
+      formula-read-formula = λ κ a x y u v h k. one-answer _ x y h k;
       kinds-memory-of = λ κ a x y u v h k. cc;
       kinds-figure-of = λ κ a x y u v h k. cc;
       kinds-mark-of = λ κ a x y u v h k. cc;
@@ -134,6 +159,7 @@ all =
       lanwezik-fresh-in = λ κ a x y u v h k. (refl, h ∙ sym k);
       lanwezik-scan-in = λ κ a x y u v h k. (h .0 ∙ sym (k .0), h .1 ∙ sym (k .1));
       lanwezik-take-in = λ κ a x y u v h k. (h .0 ∙ sym (k .0), h .1 ∙ sym (k .1));
+      lanwezik-formula = λ κ a x y u v h k. formulas-same _ h k;
       text-put = λ κ a x y u v h k. (h .place ∙ sym (k .place), h .bytes ∙ sym (k .bytes));
       text-put-number = λ κ a x y u v h k. (h .place ∙ sym (k .place), h .bytes ∙ sym (k .bytes));
       lines-write-line = λ κ a x y u v h k. (h .place ∙ sym (k .place), h .bytes ∙ sym (k .bytes));
