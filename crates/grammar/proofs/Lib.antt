@@ -1,4 +1,4 @@
-pub mod Unique
+pub mod Builds
 pub mod Complete
 pub mod Sound
 pub mod Places

@@ -19,7 +19,7 @@ use Rattle.writing.specs.Expressions.{operatorFirst, depth, bytesOf, Proper}
 use Rattle.writing.proofs.Back.{back-of}
 use Rattle.grammar.specs.Grammar.{Level, Operator, and-sign, nand-sign, xor-sign, or-sign, nor-sign, Reads, alone, joined, named, negated, grouped, Formula}
 use Rattle.grammar.specs.Readings.{BadAt, Judged, good as is-good, bad as is-bad}
-use Rattle.grammar.proofs.Unique.{one-reading}
+use Rattle.grammar.proofs.Builds.{one-reading}
 use Rattle.grammar.proofs.Places.{judged, one-place}
 use Rattle.parsing.specs.Listing.{noNodes, nodesOf}
 use Rattle.parsing.proofs.Trees.{numbers-of, name-proper}

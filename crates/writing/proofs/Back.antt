@@ -75,6 +75,11 @@ module _ (m : Marks) (s : List ℕ) (at : ℕ) where
     head-operator v h st =
         rw (typed v (omega arith) (sym (marked-operator m v h)) st, ne-eqb levels 0 (λ z. omega arith), ne-eqb left 0 (λ z. omega arith), lt-leb 6 v (omega arith))
 
+some-depth : (t : Expr) → 1 ≤ depth t
+some-depth (ref b) = omega arith
+some-depth (inv t) = omega (arith, some-depth t)
+some-depth (gate o a b) = omega (arith, some-depth a)
+
 -- the place behind two texts
 behind : (a b : List ℕ) (at : ℕ) → (at + length a) + length b ≡ at + length (a ++ b)
 behind a b at = omega (arith, length-append a b)
@@ -91,7 +96,7 @@ back-of m levels left s at (inv t) p e d n st =
     let v = groupsOf 3 0 in
     let w = bytesOf (operatorFirst t) in
     let o = stands-both v w s at st in
-    let h = head-operator m s at levels left (omega arith) (omega arith) 0 (omega arith) (o .0) in
+    let h = head-operator m s at levels left (omega (arith, some-depth t)) (omega arith) 0 (omega arith) (o .0) in
     let x = back-of m (levels - 1) (left - 1) s (at + length v) t p e (omega arith) (omega arith) (o .1) in
     step m levels left s at ∙ rw (h, x, behind v w at)
 back-of m levels left s at (gate g a b) p e d n st =
@@ -101,9 +106,9 @@ back-of m levels left s at (gate g a b) p e d n st =
     let z : bytesOf (operatorFirst a ++ operatorFirst b) ≡ x ++ y = bytes-append (operatorFirst a) (operatorFirst b) in
     let k : (every (bitMarked m) (leaves a) && every (bitMarked m) (leaves b)) ≡ true = (rw every-join at e) in
     let r = both (every (bitMarked m) (leaves a)) (every (bitMarked m) (leaves b)) k in
-    let o = stands-both v (x ++ y) s at (rw z at st) in
-    let q = stands-both x y s (at + length v) (o .1) in
-    let h = head-operator m s at levels left (omega arith) (omega arith) g (p .0 .1) (o .0) in
+    let o = stands-both v (bytesOf (operatorFirst a ++ operatorFirst b)) s at st in
+    let q = stands-both x y s (at + length v) (rw z at (o .1)) in
+    let h = head-operator m s at levels left (omega (arith, some-depth a)) (omega arith) g (p .0 .1) (o .0) in
     let i = back-of m (levels - 1) (left - 1) s (at + length v) a (p .1 .0) (r .0) (omega arith) (omega arith) (q .0) in
     let j = back-of m (levels - 1) (left - 1 - nodes a) s (at + length v + length x) b (p .1 .1) (r .1) (omega arith) (omega arith) (q .1) in
     step m levels left s at

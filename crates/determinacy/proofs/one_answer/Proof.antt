@@ -5,7 +5,7 @@ use mathlib.Core.List.{List}
 use native.Mathlib.Omega.{arith}
 use lib.ListN.{length, getD, replicate, length-replicate, getD-replicate}
 use Rattle.determinacy.specs.Determinacy.{Determined, Determinacy}
-use Rattle.grammar.proofs.Unique.{one-reading}
+use Rattle.grammar.proofs.Builds.{one-reading}
 use Rattle.grammar.proofs.Places.{one-place}
 use Rattle.parsing.specs.declared.Listed.{Listed}
 use Rattle.parsing.specs.Listing.{listedTree, listedBad, Lists, lists, lists-none}

@@ -1,5 +1,5 @@
--- `grammar::one_reading` meets its contract: the machine of `Unique` builds the only reading, the acceptor of `Places` finds the only place.
-use Rattle.grammar.proofs.Unique.{one-reading}
+-- `grammar::one_reading` meets its contract: the machine of `Builds` builds the only reading, the acceptor of `Places` finds the only place.
+use Rattle.grammar.proofs.Builds.{one-reading}
 use Rattle.grammar.proofs.Places.{judged, one-place}
 use Rattle.grammar.proofs.one_reading.Statement.{statement}
 use Rattle.grammar.proofs.one_reading.Tie as tie

@@ -469,7 +469,7 @@ pub +and-list+by-level+list+or-list+part+xor-list-spec : {M : Type 1} → statem
     let start = turn .before .before .before .before in
     let s = start .args .text .now in
     let x = took s (known .inner2 .given .1) (call .or-list .ensures) in
-    omega (arith, inner-fits s (turn .loop .inv) x .0))
+    omega (arith, inner-fits s (turn .loop .inv) x))
     (λ c.
     let known = c .before .before .before .before in
     let call = known .before .before in
@@ -477,7 +477,7 @@ pub +and-list+by-level+list+or-list+part+xor-list-spec : {M : Type 1} → statem
     let start = turn .before .before .before .before in
     let s = start .args .text .now in
     let x = took s (known .inner2 .given .1) (call .or-list .ensures) in
-    omega (arith, inner-fits s (turn .loop .inv) x .1))
+    omega (arith, inner-fits s (turn .loop .inv) x))
     (λ c.
     let known = c .before in
     let call = known .before .before in

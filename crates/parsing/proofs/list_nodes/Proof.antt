@@ -1,4 +1,4 @@
--- `formula::list_nodes` meets its contract.
+-- `parsing::list_nodes` meets its contract.
 use Prim.Native.Nat.{_≤_}
 use mathlib.Core.Path.{sym, _∙_}
 use native.Mathlib.Omega.{arith}

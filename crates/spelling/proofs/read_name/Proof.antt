@@ -1,5 +1,5 @@
 -- `spelling::read_name` meets its contract.
-use mathlib.Core.Path.{sym, _∙_}
+use mathlib.Core.Path.{sym, ap, _∙_}
 use native.Mathlib.Omega.{arith}
 use borrow.Author.Needs.{needs}
 use borrow.Author.Tests.{ne-eqb}
@@ -19,12 +19,14 @@ returns-2 c = rw (sym (c .before .before .byte-at .ensures) ∙ c .if2 .taken)
 returns-3 : tie.Need-returns-3
 unfolding nameAt
 returns-3 c =
-    rw (sym (c .before .before .before .before .before .byte-at .ensures) ∙ c .before .before .if3 .taken, ← (c .before .read-digits .ensures)) (c .numbered .ensures)
+    rw (sym (c .before .before .before .before .before .byte-at .ensures) ∙ c .before .before .if3 .taken)
+    (c .numbered .ensures ∙ ap (named 1) (c .before .read-digits .ensures))
 
 returns-4 : tie.Need-returns-4
 unfolding nameAt
 returns-4 c =
-    rw (sym (c .before .before .before .before .before .before .byte-at .ensures) ∙ c .before .before .if4 .taken, ← (c .before .read-digits2 .ensures)) (c .numbered2 .ensures)
+    rw (sym (c .before .before .before .before .before .before .byte-at .ensures) ∙ c .before .before .if4 .taken)
+    (c .numbered2 .ensures ∙ ap (named 34) (c .before .read-digits2 .ensures))
 
 returns-5 : tie.Need-returns-5
 unfolding nameAt
