@@ -40,10 +40,12 @@ enum {
     LANWEZIK_ABSENT = 3,    /* a reference to no block, or to the word of a kind without one */
     LANWEZIK_MEMORY = 4,    /* the program's memory is over 5,000 */
     LANWEZIK_BAD_STATE = 5, /* no state is like the one given */
-    LANWEZIK_OVERRUN = 6    /* the time would run over, or missed might */
+    LANWEZIK_OVERRUN = 6,   /* the time would run over, or missed might */
+    LANWEZIK_BAD_TEXT = 7   /* a text is no formula */
 };
 
-/* The program's own refusal, 1 to 4, comes before 5, and 5 before 6. */
+/* The program's own refusal, 1 to 4, comes before 5, and 5 before 6; of a
+ * formula 7 comes before 2. */
 
 /* ---- State ---- */
 
@@ -119,11 +121,27 @@ typedef struct {
     uint64_t time;    /* at the end of the scan in which it rose */
 } lanwezik_taken;
 
+/* The most nodes of an expression, and their places: one more, never used. */
+enum {
+    LANWEZIK_NODES = 63,
+    LANWEZIK_NODE_PLACES = 64
+};
+
+/* Of lanwezik_formula.  Refused, all but refusal and place are 0. */
+typedef struct {
+    uint32_t refusal; /* LANWEZIK_GOOD, LANWEZIK_OUTSIDE or LANWEZIK_BAD_TEXT */
+    uint32_t count;   /* of the nodes, 1..63 */
+    uint64_t place;   /* for 7: offset of the first bad byte, or the text's length if it
+                         only stops too soon; else 0 */
+    uint8_t nodes[LANWEZIK_NODE_PLACES]; /* their numbers, operator first; zero beyond count */
+} lanwezik_expression;
+
 /* What is passed by value is laid out as the archive has it, or the compiler stops here. */
 typedef char lanwezik_inputs_have_24_bytes[sizeof(lanwezik_inputs) == 24 ? 1 : -1];
 typedef char lanwezik_acceptance_has_24_bytes[sizeof(lanwezik_acceptance) == 24 ? 1 : -1];
 typedef char lanwezik_scanned_has_24_bytes[sizeof(lanwezik_scanned) == 24 ? 1 : -1];
 typedef char lanwezik_taken_has_24_bytes[sizeof(lanwezik_taken) == 24 ? 1 : -1];
+typedef char lanwezik_expression_has_80_bytes[sizeof(lanwezik_expression) == 80 ? 1 : -1];
 
 /* ---- What the archive exports ----
  *
@@ -147,6 +165,12 @@ lanwezik_scanned lanwezik_scan_in(const uint8_t *program, size_t length, uint64_
 lanwezik_taken lanwezik_take_in(uint64_t *counts, uint64_t *times, uint8_t *numbers,
                                 const uint32_t *ticks, const int16_t *words,
                                 const uint8_t *pins, const uint8_t *outputs);
+
+/* Reads a formula, as `I01 & !(B003 | I02)`, and answers the node numbers of
+ * that expression, each a number of a BL's fields: the kind 0 and they, each in
+ * its one or two bytes, are the block.  Any bytes may stand in the text, of any
+ * length; it needs no zero at its end. */
+lanwezik_expression lanwezik_formula(const uint8_t *text, size_t length);
 
 /* ---- Calls ---- */
 

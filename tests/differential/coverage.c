@@ -22,7 +22,7 @@ enum {
     RELATIONS = 6
 };
 
-const char *const CALL_NAMES[CALLS] = {"accept", "fresh", "scan", "take"};
+const char *const CALL_NAMES[CALLS] = {"accept", "formula", "fresh", "scan", "take"};
 
 static const char *const KIND_NAMES[KINDS] = {
     "BL", "SR", "PL", "AL", "DL", "OS", "FL", "CN", "UD", "CP", "OG", "ZC", "ST"
@@ -40,6 +40,19 @@ static const char *const WAY_NAMES[WAYS] = {
 };
 
 #define EVENTS(X) \
+    X(FORMULA_FULL, "a formula of 63 nodes") \
+    X(FORMULA_DEEP, "a formula 16 deep") \
+    X(FORMULA_OPEN, "a formula with 16 parentheses open") \
+    X(FORMULA_LEFT, "a formula that groups to the left") \
+    X(FORMULA_WIDE, "a byte of a name or sign beside a space") \
+    X(FORMULA_MANY, "a formula of more than 63 nodes") \
+    X(FORMULA_TALL, "a formula of 63 nodes at most, but too deep") \
+    X(FORMULA_SHORT, "a formula that stops too soon") \
+    X(FORMULA_OPENS_17, "a formula with a 17th parenthesis") \
+    X(FORMULA_IN_NAME, "a formula bad in a name") \
+    X(FORMULA_BEHIND_BANG, "a formula bad behind a !") \
+    X(FORMULA_BOTH, "a formula bad behind more than 63 nodes") \
+    X(FORMULA_ELSE, "a formula bad elsewhere") \
     X(PIN_RISES, "a pin rises") \
     X(PIN_FALLS, "a pin falls") \
     X(BIT_LOWER, "a lower block's output is read, changed in this scan") \
@@ -131,13 +144,14 @@ typedef enum { EVENTS(EVENT_NAME) EVENT_COUNT } event;
 
 static const char *const EVENT_TEXTS[EVENT_COUNT] = {EVENTS(EVENT_TEXT)};
 
-enum { REFUSALS = 7 };
+enum { REFUSALS = 8 };
 
 static uint64_t calls[CALLS][REFUSALS];
 static uint64_t ways[CALLS][WAYS];
 static uint64_t untouched[CALLS];
 static uint64_t faults[CALLS][FAULT_COUNT];
 static uint64_t kinds[KINDS];
+static uint64_t formula_operators[OPERATORS];
 static uint64_t operators[OPERATORS][2];
 static uint64_t relations[RELATIONS][2];
 static uint64_t events[EVENT_COUNT];
@@ -145,6 +159,118 @@ static uint64_t events[EVENT_COUNT];
 static void note(event what, bool holds)
 {
     events[what] += holds;
+}
+
+/* ---- Formulas ---- */
+
+enum { MOST_OPEN = 16, MOST_DEPTH = 16 };
+
+/* The most parentheses that are open at once. */
+static uint32_t most_open(const uint8_t *text, size_t length)
+{
+    uint32_t open = 0, most = 0;
+    size_t i;
+
+    for (i = 0; i < length; i++) {
+        open += (uint32_t)(text[i] == '(') - (uint32_t)(text[i] == ')');
+        most = open > most ? open : most;
+    }
+    return most;
+}
+
+/* The nodes of a good text: its names and its signs. */
+static size_t nodes_in(const uint8_t *text, size_t length)
+{
+    size_t nodes = 0;
+    bool named = false, banged = false; /* the byte before was of a name; a `!` */
+    size_t i;
+
+    for (i = 0; i < length; i++) {
+        bool name = (text[i] >= '0' && text[i] <= '9') || text[i] == 'I' || text[i] == 'B';
+        bool sign = text[i] == '!' || text[i] == '^' || ((text[i] == '&' || text[i] == '|') && !banged);
+
+        nodes += sign || (name && !named);
+        named = name;
+        banged = text[i] == '!';
+    }
+    return nodes;
+}
+
+/* The depth of the deepest node. */
+static uint32_t depth_of(const lanwezik_expression *e)
+{
+    uint32_t left[LANWEZIK_NODES + 2] = {1}, parts = 1, deepest = 0, i;
+
+    for (i = 0; i < e->count; i++) {
+        uint32_t depth = left[--parts];
+
+        deepest = depth > deepest ? depth : deepest;
+        if (e->nodes[i] < LEAF)
+            left[parts++] = depth + 1;
+        if (e->nodes[i] != NOT && e->nodes[i] < LEAF)
+            left[parts++] = depth + 1;
+    }
+    return deepest;
+}
+
+static void cover_good_formula(const uint8_t *text, size_t length, const lanwezik_expression *e)
+{
+    uint32_t i;
+
+    for (i = 0; i < e->count; i++) {
+        if (e->nodes[i] >= LEAF)
+            continue;
+        formula_operators[e->nodes[i]]++;
+        note(FORMULA_LEFT, e->nodes[i] != NOT && e->nodes[i + 1] == e->nodes[i]);
+    }
+    note(FORMULA_FULL, e->count == LANWEZIK_NODES);
+    note(FORMULA_DEEP, depth_of(e) == MOST_DEPTH);
+    note(FORMULA_OPEN, most_open(text, length) == MOST_OPEN);
+    for (i = 0; i + 1 < length; i++)
+        note(FORMULA_WIDE, (text[i] == ' ') != (text[i + 1] == ' '));
+}
+
+/* Whether the bytes before a place are the beginning of a name. */
+static bool in_name(const uint8_t *text, uint64_t place)
+{
+    uint64_t i = place;
+
+    while (i > 0 && place - i < 3 && text[i - 1] >= '0' && text[i - 1] <= '9')
+        i--;
+    return i > 0 && ((text[i - 1] == 'I' && place - i < 2) || (text[i - 1] == 'B' && place - i < 3));
+}
+
+static void cover_bad_formula(const uint8_t *text, size_t length, uint64_t place)
+{
+    note(FORMULA_BOTH, nodes_in(text, place) > LANWEZIK_NODES);
+    if (place == length)
+        note(FORMULA_SHORT, true);
+    else if (text[place] == '(' && most_open(text, place + 1) > MOST_OPEN)
+        note(FORMULA_OPENS_17, true);
+    else if (in_name(text, place))
+        note(FORMULA_IN_NAME, true);
+    else if (place > 0 && text[place - 1] == '!')
+        note(FORMULA_BEHIND_BANG, true);
+    else
+        note(FORMULA_ELSE, true);
+}
+
+void cover_formula(const uint8_t *text, size_t length, const lanwezik_expression *answer)
+{
+    bool many = nodes_in(text, length) > LANWEZIK_NODES;
+
+    switch (answer->refusal) {
+    case LANWEZIK_GOOD:
+        cover_good_formula(text, length, answer);
+        break;
+    case LANWEZIK_OUTSIDE:
+        note(FORMULA_MANY, many);
+        note(FORMULA_TALL, !many);
+        break;
+    default:
+        cover_bad_formula(text, length, answer->place);
+        break;
+    }
 }
 
 /* ---- The blocks of an accepted program ---- */
@@ -521,7 +647,7 @@ static void print_count(const char *first, const char *second, uint64_t count)
 }
 
 /* Which refusals a call can answer, one a bit. */
-static const uint8_t CAN_ANSWER[CALLS] = {0x1F, 0x01, 0x7F, 0x21};
+static const uint8_t CAN_ANSWER[CALLS] = {0x1F, 0x85, 0x01, 0x7F, 0x21};
 
 static void print_calls(call which)
 {
@@ -571,6 +697,8 @@ bool print_coverage(void)
         print_ways((call)i);
     for (i = 0; i < KINDS; i++)
         print_count(KIND_NAMES[i], " run", kinds[i]);
+    for (i = 0; i < OPERATORS; i++)
+        print_count(OPERATOR_NAMES[i], " in a formula", formula_operators[i]);
     for (i = 0; i < OPERATORS; i++) {
         print_count(OPERATOR_NAMES[i], " visited, first part on", operators[i][1]);
         print_count(OPERATOR_NAMES[i], " visited, first part off", operators[i][0]);

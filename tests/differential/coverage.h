@@ -11,7 +11,7 @@
 #include "lanwezik.h"
 
 /* The calls, and what they are called in reports. */
-typedef enum { ACCEPT, FRESH, SCAN, TAKE, CALLS } call;
+typedef enum { ACCEPT, FORMULA, FRESH, SCAN, TAKE, CALLS } call;
 
 extern const char *const CALL_NAMES[CALLS];
 
@@ -29,6 +29,9 @@ void cover_call(call which, uint32_t refusal, way how);
 /* Notes what a program was refused for, by 1, 2 or 3. */
 void cover_fault(call which, const uint8_t *program, size_t length, uint32_t refusal,
                  uint64_t place);
+
+/* Notes what a formula was read as, or where it is bad. */
+void cover_formula(const uint8_t *text, size_t length, const lanwezik_expression *answer);
 
 /* Notes a refused call whose state was compared with the one before it. */
 void cover_untouched(call which);

@@ -1,6 +1,6 @@
 /* differential CALLS SEED...
  *
- * Gives the library and the oracle the same programs, states and inputs, CALLS
+ * Gives the library and the oracle the same programs, states, inputs and texts, CALLS
  * times from each seed, and compares every field of every answer and the whole
  * state after it.  What no oracle_state can be is judged here, from the paper:
  * the program's refusal, else 5, and the state untouched.  At the first
@@ -16,8 +16,10 @@
 #include "chance.h"
 #include "controller.h"
 #include "coverage.h"
+#include "formula.h"
 #include "lanwezik.h"
 #include "recordings.h"
+#include "texts.h"
 
 enum {
     MOST_TICKS = 6553399,
@@ -125,6 +127,27 @@ static void print_acceptance(const char *whose, const lanwezik_acceptance *answe
            answer->memory, answer->steps);
 }
 
+static void print_expression(const char *whose, const lanwezik_expression *answer)
+{
+    uint32_t i;
+
+    printf("  %s: refusal %" PRIu32 ", place %" PRIu64 ", count %" PRIu32 ", nodes", whose,
+           answer->refusal, answer->place, answer->count);
+    for (i = 0; i < LANWEZIK_NODE_PLACES; i++)
+        printf(" %u", (unsigned)answer->nodes[i]);
+    putchar('\n');
+}
+
+static void print_text(const uint8_t *text, size_t length)
+{
+    size_t i;
+
+    printf("  text of %zu bytes: ", length);
+    for (i = 0; i < length; i++)
+        printf(text[i] >= 32 && text[i] <= 126 && text[i] != '\\' ? "%c" : "\\%02X", text[i]);
+    putchar('\n');
+}
+
 /* ---- The right answers ---- */
 
 /* Reads an image as a state of the oracle; false if none has this image. */
@@ -176,6 +199,15 @@ static lanwezik_acceptance right_accept(const uint8_t *bytes, size_t length)
     oracle_acceptance given = oracle_accept(bytes, length);
     lanwezik_acceptance right = {given.refusal, given.memory, given.steps, given.place};
 
+    return right;
+}
+
+static lanwezik_expression right_formula(const uint8_t *text, size_t length)
+{
+    oracle_formula given = oracle_read_formula(text, length);
+    lanwezik_expression right = {given.refusal, (uint32_t)given.count, given.place, {0}};
+
+    memcpy(right.nodes, given.nodes, sizeof given.nodes);
     return right;
 }
 
@@ -309,6 +341,27 @@ static lanwezik_acceptance check_accept(const uint8_t *bytes, size_t length)
     print_acceptance("library", &library);
     print_acceptance("right  ", &right);
     print_program(bytes, length);
+    exit(1);
+}
+
+/* Answers the right expression. */
+static lanwezik_expression check_formula(const uint8_t *text, size_t length)
+{
+    lanwezik_expression library = lanwezik_formula(text, length);
+    lanwezik_expression right = right_formula(text, length);
+
+    calls_made++;
+    if (library.refusal == right.refusal && library.place == right.place
+        && library.count == right.count
+        && memcmp(library.nodes, right.nodes, sizeof right.nodes) == 0) {
+        cover_call(FORMULA, right.refusal, GOOD_STATE);
+        cover_formula(text, length, &right);
+        return right;
+    }
+    print_failure(FORMULA);
+    print_expression("library", &library);
+    print_expression("right  ", &right);
+    print_text(text, length);
     exit(1);
 }
 
@@ -709,6 +762,50 @@ static void run_near_end(const lanwezik_state *image, const lanwezik_inputs *giv
         check_take(&copy, GOOD_STATE);
 }
 
+/* A program of one BL, whose expression a formula gave. */
+static void accept_nodes(const lanwezik_expression *expression)
+{
+    uint8_t bytes[4 + 2 * LANWEZIK_NODES] = {1, 0};
+    size_t length = 2;
+    uint32_t i;
+
+    for (i = 0; i < expression->count; i++) {
+        uint8_t node = expression->nodes[i];
+
+        bytes[length++] = node; /* from 128 on it has the high bit, and one group follows */
+        if (node >= 0x80)
+            bytes[length++] = 1;
+    }
+    bytes[length++] = 0;
+    check_accept(bytes, length);
+}
+
+/* Bytes that formulas are made of, in any order. */
+static size_t put_signs(uint8_t *text)
+{
+    static const uint8_t signs[] = " !&|^()0123IB";
+    size_t length = below(24), i;
+
+    for (i = 0; i < length; i++)
+        text[i] = signs[below(sizeof signs - 1)];
+    return length;
+}
+
+/* Formulas, good or damaged, or any bytes; what a good one gives is a program's. */
+static void run_formulas(void)
+{
+    static uint8_t text[ORACLE_MOST_TEXT];
+    uint32_t texts = 1 + below(10);
+
+    while (texts-- > 0) {
+        size_t length = percent(80) ? oracle_text(chance(), text, sizeof text) : put_signs(text);
+        lanwezik_expression expression = check_formula(text, length);
+
+        if (expression.refusal == LANWEZIK_GOOD && percent(20))
+            accept_nodes(&expression);
+    }
+}
+
 /* One program: its acceptance, then scans and takes from some state. */
 static void run_case(void)
 {
@@ -716,6 +813,7 @@ static void run_case(void)
     lanwezik_inputs given = {0, 0, {0}};
     uint32_t turns, style;
 
+    run_formulas();
     use_program();
     program.figure = check_accept(program.bytes, program.length).steps;
     put_garbage(&image);

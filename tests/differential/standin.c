@@ -1,8 +1,11 @@
-/* Stand-in for the archive: its interface over the oracle's controller.  It is
- * compiled with a controller under other names (see run), so that a wrong one
- * can be put in its place and the oracle stays as it is.
+/* Stand-in for the archive: its interface over the oracle's controller and its
+ * reader of formulas.  It is compiled with these under other names (see run), so
+ * that a wrong one can be put in their place and the oracle stays as it is.
  */
+#include <string.h>
+
 #include "controller.h"
+#include "formula.h"
 #include "lanwezik.h"
 
 /* The arrays of a state, as every call is given them. */
@@ -126,5 +129,14 @@ lanwezik_taken lanwezik_take_in(uint64_t *counts, uint64_t *times, uint8_t *numb
     answer.number = given.entry.number;
     answer.time = given.entry.time;
     store(&image, &state);
+    return answer;
+}
+
+lanwezik_expression lanwezik_formula(const uint8_t *text, size_t length)
+{
+    oracle_formula given = oracle_read_formula(text, length);
+    lanwezik_expression answer = {given.refusal, (uint32_t)given.count, given.place, {0}};
+
+    memcpy(answer.nodes, given.nodes, sizeof given.nodes);
     return answer;
 }
