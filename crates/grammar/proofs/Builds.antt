@@ -6,7 +6,10 @@ use native.Mathlib.Omega.{arith}
 use lib.Dec.{eqb}
 use Rattle.terms.specs.Choice.{pick}
 use Rattle.numbers.specs.Blocks.{Bit, off, on, input, output, Expr, ref, inv, gate}
-use Rattle.grammar.specs.Grammar.{space, bang, ampersand, opening, closing, caret, bar, letterI, digit, spaces, Decimal, no-digits, one-more, Name, name-0, name-1, name-I, name-B, Level, orList, xorList, andList, part, xorLists, andLists, parts, Operator, and-sign, nand-sign, xor-sign, or-sign, nor-sign, Reads, alone, joined, named, negated, grouped, Formula}
+use Rattle.grammar.specs.Grammar.{space, bang, ampersand, opening, closing, caret, bar, letterI, digit, spaces, Decimal, no-digits, one-more}
+use Rattle.grammar.specs.Grammar.{Name, name-0, name-1, name-I, name-B, Level, orList, xorList, andList, part, xorLists, andLists, parts}
+use Rattle.grammar.specs.Grammar.{Operator, and-sign, nand-sign, xor-sign, or-sign, nor-sign, Reads, alone, joined, named, negated, grouped}
+use Rattle.grammar.specs.Grammar.{Formula}
 
 abbrev Turn : Type 0
 Turn = Expr → Expr

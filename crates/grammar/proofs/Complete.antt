@@ -1,8 +1,8 @@
 -- What the grammar reads, the acceptor passes over. Assumes nothing.
 use Prim.Native.Nat.{ℕ, zero, suc, _+_, _*_, _-_, _<_, _≤_}
-use mathlib.Core.Path.{_≡_, refl, ap, _∙_}
+use mathlib.Core.Path.{_≡_, refl, _∙_}
 use mathlib.Core.List.{List, [], _∷_, _++_}
-use mathlib.Core.Bool.{Bool, true, _&&_}
+use mathlib.Core.Bool.{true}
 use native.Mathlib.Nat.{add-mul, mul-assoc, mul-left-comm, mul-le-mul-right}
 use native.Mathlib.Omega.{arith}
 use lib.Dec.{ltb, leb}
@@ -10,8 +10,9 @@ use borrow.Author.Tests.{le-leb, lt-ltb, leb-true, ltb-true}
 use Rattle.terms.proofs.Choice.{both}
 use Rattle.terms.proofs.Every.{both-hold}
 use Rattle.numbers.specs.Blocks.{Bit, Expr}
-use Rattle.grammar.specs.Grammar.{bang, opening, closing, digit, spaces, Decimal, no-digits, one-more, Name, name-0, name-1, name-I, name-B, Level, MadeOf, Operator, and-sign, nand-sign, xor-sign, or-sign, nor-sign, Reads, alone, joined, named, negated, grouped}
-use Rattle.grammar.specs.Machine.{State, want, had, banged, digits, dead, tens, mayBe, isDigit, toCome, inNumber, closes, step, run}
+use Rattle.grammar.specs.Grammar.{opening, closing, digit, spaces, Decimal, no-digits, one-more, Name, name-0, name-1, name-I, name-B, Level}
+use Rattle.grammar.specs.Grammar.{Operator, and-sign, nand-sign, xor-sign, or-sign, nor-sign, Reads, alone, joined, named, negated, grouped}
+use Rattle.grammar.specs.Machine.{State, want, had, digits, tens, mayBe, isDigit, toCome, inNumber, closes, step, run}
 
 pub run-append : (st : State) (a b : List ℕ) → run st (a ++ b) ≡ run (run st a) b
 unfolding run

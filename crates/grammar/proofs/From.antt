@@ -1,15 +1,14 @@
 -- The acceptor from a place of a text on: over what stands there, one byte on, or no further. Assumes nothing.
-use Prim.Native.Nat.{ℕ, zero, suc, _+_, _<_, _≤_}
+use Prim.Native.Nat.{ℕ, _+_, _<_}
 use mathlib.Core.Path.{_≡_, refl, sym, ap, _∙_}
 use mathlib.Core.Logic.{⊎-elim}
 use mathlib.Core.List.{List, [], _∷_, _++_, append-assoc}
-use native.Mathlib.Nat.{add-zero}
 use native.Mathlib.Numerals.{add-one}
 use native.Mathlib.Omega.{arith}
 use lib.ListN.{length, getD, drop, length-append, drop-of-length-le, List·getD-eq-default}
 use lib.Seq.{drop-cons}
 use Rattle.terms.proofs.Choice.{le-or-lt}
-use Rattle.grammar.specs.Machine.{State, dead, step, run, Seen, stop, ended, scan, from, Stands}
+use Rattle.grammar.specs.Machine.{State, dead, step, stop, ended, scan, from, Stands}
 use Rattle.grammar.proofs.Complete.{Goes}
 use Rattle.grammar.proofs.Places.{scan-on}
 

@@ -11,11 +11,10 @@ use lib.ListN.{length, drop, take}
 use lib.Seq.{take-add}
 use lib.Dec.{ltb, eqb}
 use Rattle.terms.proofs.Choice.{pick-case, both}
-use Rattle.numbers.specs.Blocks.{Expr}
-use Rattle.grammar.specs.Grammar.{Formula}
 use Rattle.grammar.specs.Readings.{Begins, goes-on, BadAt, Judged, good, bad}
-use Rattle.grammar.specs.Machine.{State, want, had, banged, digits, dead, tens, mayBe, isDigit, toCome, inNumber, closes, step, run, Seen, whole, stop, ended, alive, scan, from}
-use Rattle.grammar.proofs.Complete.{run-append, Goes, some-tens, may, may-be, next-digit, passes}
+use Rattle.grammar.specs.Machine.{State, want, had, banged, digits, dead, tens, mayBe, isDigit, toCome, inNumber, closes, step, run, Seen}
+use Rattle.grammar.specs.Machine.{whole, stop, ended, alive, scan, from}
+use Rattle.grammar.proofs.Complete.{run-append, some-tens, may, may-be, next-digit, passes}
 use Rattle.grammar.proofs.Sound.{Good, reading, sound}
 
 -- dead stays dead

@@ -1,15 +1,17 @@
 -- What the acceptor passes over whole, the grammar reads: each state of it stands for a reading that is not finished yet. Assumes nothing.
 use Prim.Native.Nat.{ℕ, zero, suc, _+_, _*_, _-_, _<_, _≤_}
-use mathlib.Core.Path.{_≡_, refl, sym, ap, subst, _∙_}
+use mathlib.Core.Path.{_≡_, refl, ap, subst}
 use mathlib.Core.List.{List, [], _∷_, _++_, append-assoc, append-nil}
-use mathlib.Core.Bool.{Bool, true, false, _&&_}
+use mathlib.Core.Bool.{true, _&&_}
 use native.Mathlib.Omega.{arith}
 use lib.Dec.{ltb, leb, eqb}
 use borrow.Author.Tests.{leb-true, ltb-true, eqb-true}
-use Rattle.terms.specs.Choice.{pick}
 use Rattle.terms.proofs.Choice.{pick-case, both}
-use Rattle.numbers.specs.Blocks.{Bit, off, on, input, output, Expr}
-use Rattle.grammar.specs.Grammar.{space, bang, ampersand, opening, closing, letterB, letterI, caret, bar, digit, spaces, Decimal, no-digits, one-more, Name, name-0, name-1, name-I, name-B, Level, orList, xorList, andList, part, MadeOf, xorLists, andLists, parts, Operator, and-sign, nand-sign, xor-sign, or-sign, nor-sign, mostOpen, Reads, alone, joined, named, negated, grouped, Formula}
+use Rattle.numbers.specs.Blocks.{Bit, Expr}
+use Rattle.grammar.specs.Grammar.{space, bang, ampersand, opening, closing, letterB, letterI, caret, bar, digit, spaces, Decimal, no-digits}
+use Rattle.grammar.specs.Grammar.{one-more, Name, name-0, name-1, name-I, name-B, Level, orList, xorList, andList, part, MadeOf, xorLists}
+use Rattle.grammar.specs.Grammar.{andLists, parts, Operator, and-sign, nand-sign, xor-sign, or-sign, nor-sign, mostOpen, Reads, alone, joined}
+use Rattle.grammar.specs.Grammar.{named, negated, grouped, Formula}
 use Rattle.grammar.specs.Machine.{State, want, had, banged, digits, dead, tens, mayBe, isDigit, toCome, inNumber, closes, step, run}
 use Rattle.grammar.proofs.Complete.{may-be}
 

@@ -1,7 +1,7 @@
 -- What each turn of a list's loop comes to: the first item, one more behind an operator, and the end. Assumes nothing.
 use Prim.Native.Nat.{ℕ, zero, suc, _+_, max, _<_, _≤_}
 use mathlib.Core.Path.{_≡_, refl, sym, ap, subst, _∙_}
-use mathlib.Core.List.{List, [], _∷_, _++_}
+use mathlib.Core.List.{List, _∷_, _++_}
 use native.Mathlib.Omega.{arith}
 use lib.ListN.{length, take, drop, length-append, length-drop}
 use lib.Seq.{sets}
@@ -9,10 +9,9 @@ use Rattle.terms.proofs.Sets.{sets-append, sets-over, inserted}
 use Rattle.numbers.specs.Blocks.{Expr, gate, nodes}
 use Rattle.writing.specs.Expressions.{operatorFirst, depth}
 use Rattle.grammar.specs.Grammar.{Level, MadeOf, xorLists, andLists, parts, Reads, alone, joined}
-use Rattle.grammar.specs.Machine.{want, had, dead, Seen, stop, from, Stands}
-use Rattle.grammar.proofs.Complete.{Goes, passes, sign}
+use Rattle.grammar.specs.Machine.{want, had, dead, stop, from, Stands}
+use Rattle.grammar.proofs.Complete.{passes, sign}
 use Rattle.grammar.proofs.From.{after, goes}
-use Rattle.spelling.specs.declared.Sign.{Sign}
 use Rattle.spelling.specs.declared.Sign.the-variants.{Nothing, Broken}
 use Rattle.spelling.specs.Spelling.{numberOf, levelOf, signAt}
 use Rattle.spelling.proofs.Signs.{Signed, sign-broken}
@@ -96,12 +95,13 @@ module _ (s : List ℕ) where
   module _ {around : ℕ} {list item : Level} (c : MadeOf list item) {at first : ℕ} where
     pub begins : {l m : List ℕ} {p n d : ℕ} → Took s around item at first l m p n d → Going around list item at first m n m p n d
     begins {l} {m} h =
+        let own = operatorFirst (h .tree) in
         record {
           text = h .text;
           tree = h .tree;
           reads = alone c (h .reads);
           stands = h .stands;
-          put = h .put ∙ sym (ap (λ (k : List ℕ). sets k first (operatorFirst (h .tree))) (h .put) ∙ sets-over (operatorFirst (h .tree)) (operatorFirst (h .tree)) l first (omega arith));
+          put = h .put ∙ sym (ap (λ (k : List ℕ). sets k first own) (h .put) ∙ sets-over own own l first (omega arith));
           counted = h .counted;
           measured = h .measured;
           free = h .free;

@@ -1,21 +1,20 @@
 -- What each way through a part comes to: `!` any number of times, then a name, or an or-list in parentheses. Assumes nothing.
-use Prim.Native.Nat.{ℕ, zero, suc, _+_, _<_, _≤_}
-use mathlib.Core.Path.{_≡_, refl, sym, ap, subst, _∙_}
+use Prim.Native.Nat.{ℕ, suc, _+_, _<_, _≤_}
+use mathlib.Core.Path.{_≡_, refl, sym, ap, _∙_}
 use mathlib.Core.List.{List, [], _∷_, _++_, append-assoc}
-use mathlib.Core.Bool.{true, false}
-use native.Mathlib.Nat.{add-zero}
 use native.Mathlib.Numerals.{add-one}
 use native.Mathlib.Omega.{arith}
 use lib.ListN.{length, set, replicate-append-replicate}
 use lib.Seq.{sets}
 use borrow.Author.Tests.{le-ltb, ne-eqb}
 use Rattle.wire.specs.Number.{byteAt}
-use Rattle.numbers.specs.Blocks.{Bit, Expr, ref, inv, nodes, bitCode}
-use Rattle.writing.specs.Expressions.{operatorFirst, depth}
+use Rattle.numbers.specs.Blocks.{Expr, ref, inv, bitCode}
+use Rattle.writing.specs.Expressions.{operatorFirst}
 use Rattle.writing.proofs.Back.{ref-back}
-use Rattle.grammar.specs.Grammar.{bang, opening, closing, spaces, mostOpen, Level, orList, xorList, andList, part, MadeOf, xorLists, andLists, parts, Reads, alone, joined, named, negated, grouped}
-use Rattle.grammar.specs.Machine.{want, had, dead, closes, step, run, Seen, stop, ended, from, Stands}
-use Rattle.grammar.proofs.Complete.{Goes, _then_, passes, opens, spaces-want}
+use Rattle.grammar.specs.Grammar.{bang, opening, closing, spaces, mostOpen, Level, orList, xorList, andList, part, MadeOf, xorLists, andLists, parts}
+use Rattle.grammar.specs.Grammar.{Reads, alone, joined, named, negated, grouped}
+use Rattle.grammar.specs.Machine.{want, had, step, run, stop, from, Stands}
+use Rattle.grammar.proofs.Complete.{Goes, _then_, opens, spaces-want}
 use Rattle.grammar.proofs.From.{byte, after, there, goes, halts}
 use Rattle.spelling.specs.declared.Named.the-variants.{NoName}
 use Rattle.spelling.specs.Spelling.{nameAt}

@@ -1,14 +1,15 @@
 -- How many nodes a tree has, how deep it is and how long its text; and `!` any number of times before it. Assumes nothing.
-use Prim.Native.Nat.{ℕ, zero, suc, _+_, max, _<_, _≤_}
+use Prim.Native.Nat.{ℕ, zero, suc, _+_, _≤_}
 use mathlib.Core.Path.{_≡_, refl, sym, ap, _∙_}
-use mathlib.Core.List.{List, [], _∷_, _++_}
+use mathlib.Core.List.{List, _∷_, _++_}
 use native.Mathlib.Omega.{arith}
 use lib.ListN.{length, replicate, length-append, length-replicate}
 use lib.Seq.{sets}
 use Rattle.terms.proofs.Sets.{sets-append}
 use Rattle.numbers.specs.Blocks.{Bit, Expr, ref, inv, gate, nodes}
 use Rattle.writing.specs.Expressions.{operatorFirst, depth, InRange}
-use Rattle.grammar.specs.Grammar.{opening, closing, spaces, Name, name-0, name-1, name-I, name-B, Level, Operator, and-sign, nand-sign, xor-sign, or-sign, nor-sign, Reads, alone, joined, named, negated, grouped}
+use Rattle.grammar.specs.Grammar.{opening, closing, spaces, Name, name-0, name-1, name-I, name-B, Level, Operator, and-sign, nand-sign, xor-sign}
+use Rattle.grammar.specs.Grammar.{or-sign, nor-sign, Reads, alone, joined, named, negated, grouped}
 
 pub numbers-of : (t : Expr) → length (operatorFirst t) ≡ nodes t
 numbers-of (ref b) = refl

@@ -1,11 +1,8 @@
 -- A whole text: bad inside, bad behind what was read of it, or read to its end. Assumes nothing.
-use Prim.Native.Nat.{ℕ, _+_, _<_, _≤_}
+use Prim.Native.Nat.{ℕ, _<_, _≤_}
 use mathlib.Core.Path.{_≡_, refl, sym, subst, _∙_}
-use mathlib.Core.Bool.{true, false}
-use mathlib.Core.List.{List, [], _++_, append-nil}
-use native.Mathlib.Omega.{arith}
-use lib.ListN.{length, drop, drop-of-length-le}
-use lib.Seq.{sets}
+use mathlib.Core.List.{List, append-nil}
+use lib.ListN.{length, drop-of-length-le}
 use lib.Dec.{eqb}
 use Rattle.terms.proofs.Choice.{pick-case}
 use Rattle.wire.specs.Number.{byteAt}

@@ -1,19 +1,18 @@
 -- What stands at a place, by the grammar: a name, or the place where the acceptor stops. Assumes nothing.
 use Prim.Native.Nat.{ℕ, zero, suc, _+_, _*_, _-_, _<_, _≤_}
-use mathlib.Core.Path.{_≡_, refl, sym, ap, subst, _∙_}
+use mathlib.Core.Path.{_≡_, refl, sym, ap, _∙_}
 use mathlib.Core.Bool.{Bool, true, false, _&&_}
 use mathlib.Core.List.{List, [], _∷_, _++_, append-assoc, append-nil}
 use native.Mathlib.Omega.{arith}
 use lib.ListN.{length}
 use lib.Dec.{eqb, leb}
-use borrow.Author.Tests.{eqb-true, eqb-false, ne-eqb, leb-true}
-use Rattle.terms.specs.Choice.{pick}
-use Rattle.terms.proofs.Choice.{pick-case, both, never}
+use borrow.Author.Tests.{eqb-true, ne-eqb, leb-true}
+use Rattle.terms.proofs.Choice.{pick-case, both}
 use Rattle.wire.specs.Number.{byteAt}
 use Rattle.numbers.specs.Blocks.{Bit, off, on, input, output, bitCode}
 use Rattle.grammar.specs.Grammar.{letterB, letterI, digit, Decimal, no-digits, one-more, Name, name-0, name-1, name-I, name-B}
-use Rattle.grammar.specs.Machine.{State, want, had, digits, dead, tens, mayBe, isDigit, toCome, inNumber, step, run, Seen, stop, from, Stands}
-use Rattle.grammar.proofs.Complete.{Goes, may-be}
+use Rattle.grammar.specs.Machine.{State, want, digits, dead, tens, mayBe, isDigit, toCome, inNumber, step, run, stop, from, Stands}
+use Rattle.grammar.proofs.Complete.{may-be}
 use Rattle.grammar.proofs.From.{nothing, byte, after, there, goes, halts}
 use Rattle.spelling.specs.declared.Digits.{Digits}
 use Rattle.spelling.specs.declared.Digits.the-variants.{Got, Bad}

@@ -1,13 +1,11 @@
 -- One digit more of a number in a name, as the code looks at it. Assumes nothing.
 use Prim.Native.Nat.{ℕ, zero, suc, _+_, _*_, _-_, _<_, _≤_}
-use mathlib.Core.Path.{_≡_, refl, sym, ap, _∙_}
-use mathlib.Core.Bool.{Bool, true, false, _&&_}
+use mathlib.Core.Path.{_≡_, refl, ap, _∙_}
+use mathlib.Core.Bool.{true, false, _&&_}
 use mathlib.Core.List.{List}
 use native.Mathlib.Nat.{mul-le-mul, le-mul-of-pos-right}
 use native.Mathlib.Omega.{arith}
-use lib.Dec.{leb, ltb}
 use borrow.Author.Tests.{le-leb, lt-leb, lt-ltb, le-ltb}
-use Rattle.terms.specs.Choice.{pick}
 use Rattle.wire.specs.Number.{byteAt}
 use Rattle.grammar.specs.Machine.{tens, mayBe, isDigit}
 use Rattle.grammar.proofs.Complete.{some-tens}

@@ -1,17 +1,16 @@
 -- What stands at a place behind a part, by the grammar: an operator, or the place where the acceptor stops. Assumes nothing.
-use Prim.Native.Nat.{ℕ, zero, suc, _+_, _<_}
-use mathlib.Core.Path.{_≡_, refl, sym, ap, subst, _∙_}
+use Prim.Native.Nat.{ℕ, _+_, _<_}
+use mathlib.Core.Path.{_≡_, refl, sym, ap, _∙_}
 use mathlib.Core.Bool.{Bool, true, false}
-use mathlib.Core.List.{List, [], _∷_, _++_}
+use mathlib.Core.List.{List, [], _∷_}
 use native.Mathlib.Omega.{arith}
-use lib.ListN.{length}
 use lib.Dec.{eqb}
-use borrow.Author.Tests.{eqb-true, ne-eqb}
+use borrow.Author.Tests.{eqb-true}
 use Rattle.terms.specs.Choice.{pick}
 use Rattle.terms.proofs.Choice.{pick-case}
 use Rattle.wire.specs.Number.{byteAt}
 use Rattle.grammar.specs.Grammar.{closing, Level, orList, xorList, andList, part, Operator, and-sign, nand-sign, xor-sign, or-sign, nor-sign}
-use Rattle.grammar.specs.Machine.{State, want, had, banged, dead, closes, step, stop, from, Stands}
+use Rattle.grammar.specs.Machine.{State, had, banged, dead, closes, step, stop, from, Stands}
 use Rattle.grammar.proofs.From.{byte, after, there, halts}
 use Rattle.spelling.specs.declared.Sign.{Sign}
 use Rattle.spelling.specs.declared.Sign.the-variants.{Of, Nothing, Broken}
@@ -108,7 +107,9 @@ no-sign s at d n32 a x o =
     not-none : {op n : ℕ} → Of op n ≡ Nothing → ⊥
     not-none f = let z : _≡_ {A = ℕ} 0 1 = cc in omega arith
 
-    by : (t u : Bool) → pick t (Of 4 (at + 1 + 1)) (pick u Nothing (Broken (at + 1))) ≡ Nothing → pick t Nothing (pick u (Of 5 (at + 1 + 1)) (Broken (at + 1))) ≡ Nothing → ⊥
+    by :
+        (t u : Bool) → pick t (Of 4 (at + 1 + 1)) (pick u Nothing (Broken (at + 1))) ≡ Nothing →
+        pick t Nothing (pick u (Of 5 (at + 1 + 1)) (Broken (at + 1))) ≡ Nothing → ⊥
     by true u f g = not-none f
     by false true f g = not-none g
     by false false f g = let z : _≡_ {A = ℕ} 0 1 = cc in omega arith

@@ -1,18 +1,18 @@
 -- Each clause of Typed, from the grammar's readings and from reading back what is written. Assumes nothing.
-use Prim.Native.Nat.{ℕ, _+_, max, _<_, _≤_}
-use mathlib.Core.Path.{_≡_, refl, sym, ap, _∙_}
+use Prim.Native.Nat.{ℕ, _+_, _<_, _≤_}
+use mathlib.Core.Path.{_≡_, refl, ap, _∙_}
 use mathlib.Core.Logic.{_↔_, _⊎_, inl, inr, ⊎-elim}
 use mathlib.Core.Bool.{true}
-use mathlib.Core.List.{List, [], _∷_, _++_}
+use mathlib.Core.List.{List}
 use native.Mathlib.Omega.{arith}
-use lib.ListN.{length, take, drop, replicate, length-replicate}
-use lib.Seq.{sets, sets-eq, take-append-seam}
+use lib.ListN.{length, take, drop, length-replicate}
+use lib.Seq.{sets-eq, take-append-seam}
 use Rattle.terms.specs.Choice.{every}
 use Rattle.terms.specs.Refusals.{badText, outside}
 use Rattle.terms.proofs.Choice.{le-or-lt}
 use Rattle.wire.specs.Facts.{Stands}
 use Rattle.wire.specs.Reading.{got}
-use Rattle.numbers.specs.Blocks.{Bit, Expr, ref, inv, gate, leaves, nodes}
+use Rattle.numbers.specs.Blocks.{Expr, leaves, nodes}
 use Rattle.numbers.specs.Reading.{Marks, bitMarked}
 use Rattle.nodes.specs.Reading.{exprAt}
 use Rattle.writing.specs.Expressions.{operatorFirst, depth, bytesOf, Proper}

@@ -1,26 +1,25 @@
 -- Reading what is written of an expression, node by node. Assumes nothing.
-use Prim.Native.Nat.{ℕ, zero, suc, _+_, _-_, _^_, _<_, _≤_}
-use mathlib.Core.Path.{_≡_, refl, sym, ap, subst, _∙_}
-use mathlib.Core.Bool.{Bool, true, _&&_}
+use Prim.Native.Nat.{ℕ, suc, _+_, _-_, _<_, _≤_}
+use mathlib.Core.Path.{_≡_, refl, sym, _∙_}
+use mathlib.Core.Bool.{true, _&&_}
 use mathlib.Core.List.{List, [], _∷_, _++_, append-assoc, append-nil}
 use native.Mathlib.Nat.{add-zero}
 use native.Mathlib.Omega.{arith}
-use lib.Dec.{eqb, leb, ltb}
+use lib.Dec.{eqb}
 use lib.ListN.{length, length-append}
 use borrow.Author.Tests.{lt-ltb, le-ltb, ne-eqb, le-leb, lt-leb}
 use Rattle.terms.specs.Choice.{pick, every}
 use Rattle.terms.proofs.Choice.{both}
-use Rattle.terms.proofs.Every.{every-join, both-hold}
+use Rattle.terms.proofs.Every.{every-join}
 use Rattle.wire.specs.Number.{numberAt, groupsOf}
 use Rattle.wire.specs.Facts.{Stands}
-use Rattle.wire.specs.declared.Num.the-variants.{Got}
 use Rattle.wire.specs.Reading.{got}
 use Rattle.wire.proofs.Laws.{back}
 use Rattle.numbers.specs.Blocks.{Bit, off, on, input, output, Expr, ref, inv, gate, leaves, nodes, bitCode}
 use Rattle.numbers.specs.Types.{nodeNumber, allowed, excepted, bitRef}
 use Rattle.numbers.specs.Reading.{Marks, bitMarked, marked, typedAt}
 use Rattle.numbers.proofs.References.{marked-operator, marked-leaf}
-use Rattle.nodes.specs.Reading.{headAt, nodeOf, exprAt}
+use Rattle.nodes.specs.Reading.{headAt, exprAt}
 use Rattle.nodes.proofs.Expressions.{step}
 use Rattle.nodes.specs.declared.Node.the-variants.{Leaf, One, Two}
 use Rattle.writing.specs.Expressions.{operatorFirst, depth, bytesOf, InRange, Proper}
@@ -67,10 +66,12 @@ module _ (m : Marks) (s : List ℕ) (at : ℕ) where
         let v = 6 + bitCode b in
         let g : v - 6 ≡ bitCode b = omega arith in
         let q : bitMarked m (bitRef (v - 6)) ≡ true = rw (g, o .0) e in
-        rw (typed v (omega (arith, o .1)) (sym (marked-leaf m v (omega arith)) ∙ q) st, ne-eqb levels 0 (λ z. omega arith), ne-eqb left 0 (λ z. omega arith), le-leb 6 v (omega arith), g)
+        rw (typed v (omega (arith, o .1)) (sym (marked-leaf m v (omega arith)) ∙ q) st, ne-eqb levels 0 (λ z. omega arith),
+        ne-eqb left 0 (λ z. omega arith), le-leb 6 v (omega arith), g)
 
     head-operator :
-        (v : ℕ) → v < 6 → Stands (groupsOf 3 v) s at → headAt m levels left s at ≡ pick (eqb v 0) (One (at + length (groupsOf 3 v))) (Two v (at + length (groupsOf 3 v)))
+        (v : ℕ) → v < 6 → Stands (groupsOf 3 v) s at →
+        headAt m levels left s at ≡ pick (eqb v 0) (One (at + length (groupsOf 3 v))) (Two v (at + length (groupsOf 3 v)))
     unfolding headAt
     head-operator v h st =
         rw (typed v (omega arith) (sym (marked-operator m v h)) st, ne-eqb levels 0 (λ z. omega arith), ne-eqb left 0 (λ z. omega arith), lt-leb 6 v (omega arith))

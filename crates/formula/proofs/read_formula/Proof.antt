@@ -1,5 +1,4 @@
 -- `formula::read_formula` meets its contract.
-use native.Mathlib.Omega.{arith}
 use borrow.Author.Needs.{needs}
 use Rattle.formula.proofs.Bounds.{treed, bad-text, too-many, too-deep, small}
 use Rattle.formula.proofs.read_formula.Statement.{statement}
@@ -8,12 +7,14 @@ use Rattle.formula.proofs.read_formula.Tie as tie
 returns : tie.Need-returns
 returns c =
     let s = c .before .before .before .before .before .before .before .args .text .now in
-    too-many s (treed s (c .before .before .before .before .before .list-nodes .ensures) (c .before .before .before .reading2 .given .1)) (c .before .if1 .taken) (c .refuse2 .ensures)
+    let x = treed s (c .before .before .before .before .before .list-nodes .ensures) (c .before .before .before .reading2 .given .1) in
+    too-many s x (c .before .if1 .taken) (c .refuse2 .ensures)
 
 returns-2 : tie.Need-returns-2
 returns-2 c =
     let s = c .before .before .before .before .before .before .before .before .args .text .now in
-    too-deep s (treed s (c .before .before .before .before .before .before .list-nodes .ensures) (c .before .before .before .before .reading2 .given .1)) (c .before .if2 .taken) (c .refuse3 .ensures)
+    let x = treed s (c .before .before .before .before .before .before .list-nodes .ensures) (c .before .before .before .before .reading2 .given .1) in
+    too-deep s x (c .before .if2 .taken) (c .refuse3 .ensures)
 
 returns-3 : tie.Need-returns-3
 returns-3 c =
@@ -23,7 +24,8 @@ returns-3 c =
 returns-4 : tie.Need-returns-4
 returns-4 c =
     let s = c .before .before .before .before .before .before .before .before .args .text .now in
-    small s (treed s (c .before .before .before .before .before .before .list-nodes .ensures) (c .before .before .before .before .reading2 .given .1)) (c .before .before .if1 .left) (c .before .if2 .left)
+    let x = treed s (c .before .before .before .before .before .before .list-nodes .ensures) (c .before .before .before .before .reading2 .given .1) in
+    small s x (c .before .before .if1 .left) (c .before .if2 .left)
 
 pub read-formula-spec : {M : Type 1} → statement M
 read-formula-spec =

@@ -12,7 +12,8 @@ use Rattle.spelling.proofs.Names.{name-good}
 use Rattle.spelling.proofs.Signs.{sign-of}
 use Rattle.spelling.proofs.Spaces.{skipped, skipped-within}
 use Rattle.parsing.proofs.Lists.{made, took, stopped, no-sign-of, Going, begins, ends, breaks, later, reaches, sums, goes-on}
-use Rattle.parsing.proofs.Parts.{Nots, no-nots, nots-fit, inside, one-not, too-many, inner-ready, inner-fits, into, unclosed, closed, called, called-small, name-fits, uncalled}
+use Rattle.parsing.proofs.Parts.{Nots, no-nots, nots-fit, inside, one-not, too-many, inner-ready, inner-fits, into, unclosed, closed, called}
+use Rattle.parsing.proofs.Parts.{called-small, name-fits, uncalled}
 use Prim.Native.Nat.{ℕ, _<_}
 use borrow.Fn.Kinds.{In}
 use borrow.Fn.PlainCycle.{Measures, is, falls, and}
@@ -106,7 +107,8 @@ part-falls : (n : ℕ) {level t : ℕ} → level ≡ 3 → 11 * n + (10 - 3 * le
 part-falls n e f = omega arith
 
 abbrev list-Inv-loop : list-lts.InvT-loop
-list-Inv-loop text at around nodes₀ first level next count deep p₀ n₀ d₀ nodes p n d = Going text around (levelOf level) (levelOf (level + 1)) at first nodes₀ n₀ nodes p n d
+list-Inv-loop text at around nodes₀ first level next count deep p₀ n₀ d₀ nodes p n d =
+    Going text around (levelOf level) (levelOf (level + 1)) at first nodes₀ n₀ nodes p n d
 
 abbrev list-μ-loop : list-lts.MeasureT-loop
 list-μ-loop text at around nodes₀ first level next count deep p₀ n₀ d₀ nodes p n d = length text - p

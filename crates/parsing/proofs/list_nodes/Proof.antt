@@ -1,7 +1,4 @@
 -- `parsing::list_nodes` meets its contract.
-use Prim.Native.Nat.{_≤_}
-use mathlib.Core.Path.{sym, _∙_}
-use native.Mathlib.Omega.{arith}
 use borrow.Author.Needs.{needs}
 use Rattle.grammar.specs.Grammar as g
 use Rattle.parsing.proofs.Lists.{took, stopped}
@@ -12,7 +9,8 @@ use Rattle.parsing.proofs.list_nodes.Tie as tie
 returns : tie.Need-returns
 returns c =
     let s = c .before .before .before .before .before .before .before .before .args .text .now in
-    lists-more s (took s (c .before .before .before .whole2 .given .1) (c .before .before .before .before .before .or-list .ensures)) (c .none-listed2 .ensures) (c .before .if1 .taken)
+    let x = took s (c .before .before .before .whole2 .given .1) (c .before .before .before .before .before .or-list .ensures) in
+    lists-more s x (c .none-listed2 .ensures) (c .before .if1 .taken)
 
 returns-2 : tie.Need-returns-2
 returns-2 c =

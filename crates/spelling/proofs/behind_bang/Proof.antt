@@ -9,14 +9,18 @@ use Rattle.spelling.proofs.behind_bang.Statement.{statement}
 use Rattle.spelling.proofs.behind_bang.Tie as tie
 
 add-of-level : tie.Need-add-of-level
-add-of-level c = omega (arith, there (c .before .before .before .args .text .now) (c .before .before .before .args .at) 38 (omega arith) (sym (c .before .byte-at .ensures) ∙ c .if1 .taken))
+add-of-level c =
+    let given = c .before .before .before .args in
+    omega (arith, there (given .text .now) (given .at) 38 (omega arith) (sym (c .before .byte-at .ensures) ∙ c .if1 .taken))
 
 returns : tie.Need-returns
 unfolding bangedAt
 returns c = rw (sym (c .before .before .byte-at .ensures) ∙ c .before .if1 .taken) (c .of-level .ensures)
 
 add-of-level-2 : tie.Need-add-of-level-2
-add-of-level-2 c = omega (arith, there (c .before .before .before .before .args .text .now) (c .before .before .before .before .args .at) 124 (omega arith) (sym (c .before .before .byte-at .ensures) ∙ c .if2 .taken))
+add-of-level-2 c =
+    let given = c .before .before .before .before .args in
+    omega (arith, there (given .text .now) (given .at) 124 (omega arith) (sym (c .before .before .byte-at .ensures) ∙ c .if2 .taken))
 
 returns-2 : tie.Need-returns-2
 unfolding bangedAt

@@ -1,13 +1,9 @@
 -- `spelling::read_digits` meets its contract. The loop's invariant: what is still to come makes the whole number.
-use Prim.Native.Nat.{ℕ, _*_, _+_, _-_, _≤_, _<_}
-use mathlib.Core.Path.{_≡_, refl, sym, subst, _∙_}
+use Prim.Native.Nat.{ℕ, _*_, _+_, _-_, _≤_}
+use mathlib.Core.Path.{_≡_, refl, sym, _∙_}
 use mathlib.Core.List.{List}
-use native.Mathlib.Nat.{mul-le-mul}
 use native.Mathlib.Omega.{arith}
 use borrow.Author.Needs.{needs}
-use lib.ListN.{length}
-use Rattle.grammar.specs.Machine.{tens}
-use Rattle.grammar.proofs.Complete.{some-tens}
 use Rattle.grammar.proofs.From.{there}
 use Rattle.spelling.specs.Spelling.{digitsAt}
 use Rattle.spelling.proofs.Numbers.{product, unit-most, still-small, no-digit, no-digit-high, too-large, too-small, goes-on, ends}
@@ -43,13 +39,15 @@ returns-2 c =
 mul-first : tie.Need-mul-first Inv-loop μ-loop
 mul-first c =
     let l = c .before .before .before .before .before .loop in
-    omega (arith, product (10 * l .n + (c .before .before .before .byte-at .result - 48)) _ _ (c .tens-of .ensures) (omega (arith, l .inv .few)) (omega (arith, l .inv .small)))
+    let n = 10 * l .n + (c .before .before .before .byte-at .result - 48) in
+    omega (arith, product n _ _ (c .tens-of .ensures) (omega (arith, l .inv .few)) (omega (arith, l .inv .small)))
 
 returns-3 : tie.Need-returns-3 Inv-loop μ-loop
 returns-3 c =
     let l = c .before .before .before .before .before .before .loop in
     let e = c .before .before .before .before .byte-at .ensures in
-    sym (too-large _ (l .p) (l .n) _ _ (l .left) (omega arith) (omega arith) (omega arith) (omega arith) (c .before .tens-of .ensures) (c .if3 .taken)) ∙ l .inv .same
+    let unit = c .before .tens-of .ensures in
+    sym (too-large _ (l .p) (l .n) _ _ (l .left) (omega arith) (omega arith) (omega arith) (omega arith) unit (c .if3 .taken)) ∙ l .inv .same
 
 add-if4 : tie.Need-add-if4 Inv-loop μ-loop
 add-if4 c =
@@ -60,21 +58,26 @@ returns-4 : tie.Need-returns-4 Inv-loop μ-loop
 returns-4 c =
     let l = c .before .before .before .before .before .before .before .loop in
     let e = c .before .before .before .before .before .byte-at .ensures in
-    sym (too-small _ (l .p) (l .n) _ _ (l .left) (omega arith) (omega arith) (omega arith) (omega arith) (c .before .before .tens-of .ensures) (c .before .if3 .left) (c .if4 .taken)) ∙ l .inv .same
+    let unit = c .before .before .tens-of .ensures in
+    sym (too-small _ (l .p) (l .n) _ _ (l .left) (omega arith) (omega arith) (omega arith) (omega arith) unit (c .before .if3 .left) (c .if4 .taken)) ∙
+    l .inv .same
 
 add-p : tie.Need-add-p Inv-loop μ-loop
 add-p c =
     let l = c .before .before .before .before .before .before .before .loop in
-    omega (arith, there (c .before .before .before .before .before .before .before .before .before .args .text .now) (l .p) _ (omega arith) (sym (c .before .before .before .before .before .byte-at .ensures)))
+    let start = c .before .before .before .before .before .before .before .before .before in
+    omega (arith, there (start .args .text .now) (l .p) _ (omega arith) (sym (c .before .before .before .before .before .byte-at .ensures)))
 
 loop-again : tie.Need-loop-again Inv-loop μ-loop
 loop-again c =
     let l = c .before .before .before .before .before .before .before .loop in
     let e = c .before .before .before .before .before .byte-at .ensures in
+    let unit = c .before .before .tens-of .ensures in
+    let fits = c .before .if3 .left in
     record {
-      same = sym (goes-on _ (l .p) (l .n) _ _ (l .left) (omega arith) (omega arith) (omega arith) (omega arith) (c .before .before .tens-of .ensures) (c .before .if3 .left) (c .if4 .left)) ∙ l .inv .same;
+      same = sym (goes-on _ (l .p) (l .n) _ _ (l .left) (omega arith) (omega arith) (omega arith) (omega arith) unit fits (c .if4 .left)) ∙ l .inv .same;
       few = omega (arith, l .inv .few);
-      small = omega (arith, still-small _ _ _ _ (c .before .before .tens-of .ensures) (c .before .if3 .left));
+      small = omega (arith, still-small _ _ _ _ unit fits);
     }
 
 returns-5 : tie.Need-returns-5 Inv-loop μ-loop

@@ -30,22 +30,32 @@ returns-4 c =
 
 returns-5 : tie.Need-returns-5
 unfolding nameAt
-returns-5 c = rw (← (c .before .before .before .before .byte-at .ensures), ne-eqb _ 48 (c .before .before .before .if1 .left), ne-eqb _ 49 (c .before .before .if2 .left), ne-eqb _ 73 (c .before .if3 .left), ne-eqb _ 66 (c .if4 .left))
+returns-5 c =
+    rw (← (c .before .before .before .before .byte-at .ensures), ne-eqb _ 48 (c .before .before .before .if1 .left),
+    ne-eqb _ 49 (c .before .before .if2 .left), ne-eqb _ 73 (c .before .if3 .left), ne-eqb _ 66 (c .if4 .left))
 
 pub read-name-spec : {M : Type 1} → statement M
 read-name-spec =
     tie.close
     (tie.spec
     (λ c κs. search needs)
-    (λ c. omega (arith, there (c .before .before .before .args .text .now) (c .before .before .before .args .at) 48 (omega arith) (sym (c .before .byte-at .ensures) ∙ c .if1 .taken)))
+    (λ c.
+    let given = c .before .before .before .args in
+    omega (arith, there (given .text .now) (given .at) 48 (omega arith) (sym (c .before .byte-at .ensures) ∙ c .if1 .taken)))
     returns
-    (λ c. omega (arith, there (c .before .before .before .before .args .text .now) (c .before .before .before .before .args .at) 49 (omega arith) (sym (c .before .before .byte-at .ensures) ∙ c .if2 .taken)))
+    (λ c.
+    let given = c .before .before .before .before .args in
+    omega (arith, there (given .text .now) (given .at) 49 (omega arith) (sym (c .before .before .byte-at .ensures) ∙ c .if2 .taken)))
     returns-2
-    (λ c. omega (arith, there (c .before .before .before .before .before .args .text .now) (c .before .before .before .before .before .args .at) 73 (omega arith) (sym (c .before .before .before .byte-at .ensures) ∙ c .if3 .taken)))
+    (λ c.
+    let given = c .before .before .before .before .before .args in
+    omega (arith, there (given .text .now) (given .at) 73 (omega arith) (sym (c .before .before .before .byte-at .ensures) ∙ c .if3 .taken)))
     (λ c κs. search needs)
     (λ c κs. search needs)
     returns-3
-    (λ c. omega (arith, there (c .before .before .before .before .before .before .args .text .now) (c .before .before .before .before .before .before .args .at) 66 (omega arith) (sym (c .before .before .before .before .byte-at .ensures) ∙ c .if4 .taken)))
+    (λ c.
+    let given = c .before .before .before .before .before .before .args in
+    omega (arith, there (given .text .now) (given .at) 66 (omega arith) (sym (c .before .before .before .before .byte-at .ensures) ∙ c .if4 .taken)))
     (λ c κs. search needs)
     (λ c κs. search needs)
     returns-4

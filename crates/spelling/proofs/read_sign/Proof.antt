@@ -26,23 +26,33 @@ returns-4 c = rw (sym (c .before .before .before .before .before .byte-at .ensur
 
 returns-5 : tie.Need-returns-5
 unfolding signAt
-returns-5 c = rw (← (c .before .before .before .before .byte-at .ensures), ne-eqb _ 38 (c .before .before .before .if1 .left), ne-eqb _ 94 (c .before .before .if2 .left), ne-eqb _ 124 (c .before .if3 .left), ne-eqb _ 33 (c .if4 .left))
+returns-5 c =
+    rw (← (c .before .before .before .before .byte-at .ensures), ne-eqb _ 38 (c .before .before .before .if1 .left),
+    ne-eqb _ 94 (c .before .before .if2 .left), ne-eqb _ 124 (c .before .if3 .left), ne-eqb _ 33 (c .if4 .left))
 
 pub read-sign-spec : {M : Type 1} → statement M
 read-sign-spec =
     tie.close
     (tie.spec
     (λ c κs. search needs)
-    (λ c. omega (arith, there (c .before .before .before .args .text .now) (c .before .before .before .args .at) 38 (omega arith) (sym (c .before .byte-at .ensures) ∙ c .if1 .taken)))
+    (λ c.
+    let given = c .before .before .before .args in
+    omega (arith, there (given .text .now) (given .at) 38 (omega arith) (sym (c .before .byte-at .ensures) ∙ c .if1 .taken)))
     (λ c κs. search needs)
     returns
-    (λ c. omega (arith, there (c .before .before .before .before .args .text .now) (c .before .before .before .before .args .at) 94 (omega arith) (sym (c .before .before .byte-at .ensures) ∙ c .if2 .taken)))
+    (λ c.
+    let given = c .before .before .before .before .args in
+    omega (arith, there (given .text .now) (given .at) 94 (omega arith) (sym (c .before .before .byte-at .ensures) ∙ c .if2 .taken)))
     (λ c κs. search needs)
     returns-2
-    (λ c. omega (arith, there (c .before .before .before .before .before .args .text .now) (c .before .before .before .before .before .args .at) 124 (omega arith) (sym (c .before .before .before .byte-at .ensures) ∙ c .if3 .taken)))
+    (λ c.
+    let given = c .before .before .before .before .before .args in
+    omega (arith, there (given .text .now) (given .at) 124 (omega arith) (sym (c .before .before .before .byte-at .ensures) ∙ c .if3 .taken)))
     (λ c κs. search needs)
     returns-3
-    (λ c. omega (arith, there (c .before .before .before .before .before .before .args .text .now) (c .before .before .before .before .before .before .args .at) 33 (omega arith) (sym (c .before .before .before .before .byte-at .ensures) ∙ c .if4 .taken)))
+    (λ c.
+    let given = c .before .before .before .before .before .before .args in
+    omega (arith, there (given .text .now) (given .at) 33 (omega arith) (sym (c .before .before .before .before .byte-at .ensures) ∙ c .if4 .taken)))
     (λ c κs. search needs)
     returns-4
     returns-5)

@@ -20,7 +20,8 @@ returns c = sym (no-space (c .before .before .before .before .args .text .now) _
 
 loop-again : tie.Need-loop-again Inv-loop μ-loop
 loop-again c =
-    sym (one-space (c .before .before .before .before .args .text .now) _ (c .before .before .loop-test .taken) (c .if1 .left)) ∙ c .before .before .before .loop .inv
+    let turn = c .before .before .before in
+    sym (one-space (turn .before .args .text .now) _ (c .before .before .loop-test .taken) (c .if1 .left)) ∙ turn .loop .inv
 
 returns-2 : tie.Need-returns-2 Inv-loop μ-loop
 returns-2 c = sym (no-more (c .before .before .args .text .now) _ (c .loop-test .left)) ∙ c .before .loop .inv
