@@ -1,6 +1,7 @@
 #!/usr/bin/env python3
-"""Runs every example of docs/PROGRAMS.md by the sample console and compares what it prints: tests/programs.py [standin]. With `standin` the stand-in of
-tests/differential takes the library's place. With --write the text takes what was printed. Run from the project's root; exit 0 if nothing differs."""
+"""Runs every example of docs/PROGRAMS.md by the sample console, formulas by the sample that reads them, and compares what is printed:
+tests/programs.py [standin]. With `standin` the stand-in of tests/differential takes the library's place. With --write the text takes what was printed.
+Run from the project's root; exit 0 if nothing differs."""
 import pathlib
 import re
 import subprocess
@@ -8,29 +9,34 @@ import sys
 import tempfile
 
 TEXT = pathlib.Path('docs/PROGRAMS.md')
-EXAMPLE = re.compile(r'```program\n(.*?)```\n```scans\n(.*?)```\n(?:```prints\n(.*?)```\n)?', re.S)
+EXAMPLE = re.compile(r'((?:```program\n(.*?)```\n```scans\n(.*?)```\n)|(?:```formulas\n(.*?)```\n))(?:```prints\n(.*?)```\n)?', re.S)
 
 
-def printed(program, scans, words):
+def run(command, words, said):
+    return subprocess.run([command[0], *words, *command[1:]], input=said, capture_output=True, text=True).stdout
+
+
+def printed_by_console(program, scans, words):
     data = bytes(int(b, 16) for line in program.splitlines() for b in line.split('#')[0].split())
     with tempfile.NamedTemporaryFile(suffix='.program') as file:
         file.write(data)
         file.flush()
-        return subprocess.run(['bin/console', *words, file.name], input=scans, capture_output=True, text=True).stdout
+        return run(['bin/console', file.name], words, scans)
 
 
 def main(args):
     words = [a for a in args if a == 'standin']
     text, differ, count = TEXT.read_text(), 0, 0
     for m in list(EXAMPLE.finditer(text)):
-        now = printed(m[1], m[2], words)
+        given, program, scans, formulas, expected = m.groups()
+        now = run(['bin/formula'], words, formulas) if formulas else printed_by_console(program, scans, words)
         count += 1
-        if now != m[3]:
+        if now != expected:
             differ += 1
             if '--write' in args:
-                text = text.replace(m[0], f'```program\n{m[1]}```\n```scans\n{m[2]}```\n```prints\n{now}```\n')
+                text = text.replace(m[0], f'{given}```prints\n{now}```\n')
             else:
-                print(f'{m[1]}prints\n{now}and not\n{m[3]}')
+                print(f'{given}prints\n{now}and not\n{expected}')
     if '--write' in args:
         TEXT.write_text(text)
     print(f'{count} examples, {differ} differ')
