@@ -66,8 +66,13 @@ module _ (m : Marks) (s : List ℕ) (at : ℕ) where
         let v = 6 + bitCode b in
         let g : v - 6 ≡ bitCode b = omega arith in
         let q : bitMarked m (bitRef (v - 6)) ≡ true = rw (g, o .0) e in
-        rw (typed v (omega (arith, o .1)) (sym (marked-leaf m v (omega arith)) ∙ q) st, ne-eqb levels 0 (λ z. omega arith),
-        ne-eqb left 0 (λ z. omega arith), le-leb 6 v (omega arith), g)
+        rw (
+          typed v (omega (arith, o .1)) (sym (marked-leaf m v (omega arith)) ∙ q) st,
+          ne-eqb levels 0 (λ z. omega arith),
+          ne-eqb left 0 (λ z. omega arith),
+          le-leb 6 v (omega arith),
+          g,
+        )
 
     head-operator :
         (v : ℕ) → v < 6 → Stands (groupsOf 3 v) s at →

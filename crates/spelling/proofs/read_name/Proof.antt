@@ -31,8 +31,13 @@ returns-4 c =
 returns-5 : tie.Need-returns-5
 unfolding nameAt
 returns-5 c =
-    rw (← (c .before .before .before .before .byte-at .ensures), ne-eqb _ 48 (c .before .before .before .if1 .left),
-    ne-eqb _ 49 (c .before .before .if2 .left), ne-eqb _ 73 (c .before .if3 .left), ne-eqb _ 66 (c .if4 .left))
+    rw (
+      ← (c .before .before .before .before .byte-at .ensures),
+      ne-eqb _ 48 (c .before .before .before .if1 .left),
+      ne-eqb _ 49 (c .before .before .if2 .left),
+      ne-eqb _ 73 (c .before .if3 .left),
+      ne-eqb _ 66 (c .if4 .left),
+    )
 
 pub read-name-spec : {M : Type 1} → statement M
 read-name-spec =

@@ -27,8 +27,13 @@ returns-4 c = rw (sym (c .before .before .before .before .before .byte-at .ensur
 returns-5 : tie.Need-returns-5
 unfolding signAt
 returns-5 c =
-    rw (← (c .before .before .before .before .byte-at .ensures), ne-eqb _ 38 (c .before .before .before .if1 .left),
-    ne-eqb _ 94 (c .before .before .if2 .left), ne-eqb _ 124 (c .before .if3 .left), ne-eqb _ 33 (c .if4 .left))
+    rw (
+      ← (c .before .before .before .before .byte-at .ensures),
+      ne-eqb _ 38 (c .before .before .before .if1 .left),
+      ne-eqb _ 94 (c .before .before .if2 .left),
+      ne-eqb _ 124 (c .before .if3 .left),
+      ne-eqb _ 33 (c .if4 .left),
+    )
 
 pub read-sign-spec : {M : Type 1} → statement M
 read-sign-spec =
