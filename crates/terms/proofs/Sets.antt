@@ -65,7 +65,8 @@ module _ {A : Type 0} where
     stays h = rw (out h) (sets-out (a ∷ take (suc (length xs)) (drop i l)) l i h ∙ sym (sets-out (a ∷ (x ∷ xs)) l i h))
 
     moves :
-        i < length l → sets (sets (set l i a) (suc i) xs) (suc i) (x ∷ take (length xs) (drop (suc i) (sets (set l i a) (suc i) xs))) ≡ sets (set l i a) (suc i) (x ∷ xs) →
+        i < length l →
+        sets (sets (set l i a) (suc i) xs) (suc i) (x ∷ take (length xs) (drop (suc i) (sets (set l i a) (suc i) xs))) ≡ sets (set l i a) (suc i) (x ∷ xs) →
         sets there i (a ∷ take (suc (length xs)) (drop i there)) ≡ sets l i (a ∷ (x ∷ xs))
     moves h e = rw (front h, same-rest, other) e
 
