@@ -11,6 +11,7 @@
 #define LOG uint64_t *counts, uint64_t *times, uint8_t *numbers
 
 void *module_accept(lanwezik_acceptance *answer, const uint8_t *program, size_t length);
+void *module_formula(lanwezik_expression *answer, const uint8_t *text, size_t length);
 void *module_scan_in(lanwezik_scanned *answer, const uint8_t *program, size_t length, LOG,
                      uint32_t *ticks, int16_t *words, uint8_t *pins, uint8_t *outputs,
                      const lanwezik_inputs *inputs);
@@ -22,6 +23,14 @@ lanwezik_acceptance lanwezik_accept(const uint8_t *program, size_t length)
     lanwezik_acceptance answer;
 
     (void)module_accept(&answer, program, length);
+    return answer;
+}
+
+lanwezik_expression lanwezik_formula(const uint8_t *text, size_t length)
+{
+    lanwezik_expression answer;
+
+    (void)module_formula(&answer, text, length);
     return answer;
 }
 
