@@ -1,11 +1,12 @@
 -- Ours, and part of no promise: an acceptor of the same texts, byte by byte. The places of bad bytes are found through it.
 use Prim.Native.Nat.{ℕ, zero, suc, _+_, _*_, _-_}
 use mathlib.Core.Path.{_≡_}
-use mathlib.Core.List.{List, [], _∷_, _++_}
+use mathlib.Core.List.{List, [], _∷_}
 use mathlib.Core.Bool.{Bool, _&&_}
 use lib.ListN.{length, drop}
 use lib.Dec.{ltb, leb, eqb}
 use Rattle.terms.specs.Choice.{pick}
+use Rattle.wire.specs.Facts.{Stands}
 use Rattle.grammar.specs.Grammar.{space, bang, ampersand, opening, closing, letterB, letterI, caret, bar, digit, mostOpen}
 
 -- inside d parentheses: a part is wanted; one is had; a `!` stands behind one; or in a name, where more digits are to come than `left`, of a number
@@ -95,6 +96,6 @@ unfoldable pub from : List ℕ → State → ℕ → Seen
 from s st at = scan st at (drop at s)
 
 -- the text w stands in s from a place up to another
-pub record Stands (s : List ℕ) (at : ℕ) (w : List ℕ) (next : ℕ) : Type 0 where
-  pub text : drop at s ≡ w ++ drop next s
+pub record Spans (s : List ℕ) (at : ℕ) (w : List ℕ) (next : ℕ) : Type 0 where
+  pub stands : Stands w s at
   pub end : next ≡ at + length w

@@ -21,6 +21,7 @@ pub fn put(nodes: &mut [u8; PLACES], at: usize, number: u8)
 pub fn insert(nodes: &mut [u8; PLACES], from: usize, count: usize, number: u8)
     ensures { λ _. ⌜ now (nodes .exit) ≡ sets (now (nodes .entry)) from (number ∷ take count (drop from (now (nodes .entry)))) ⌝ }
 {
+    // Not used: a proof learns an array's length from a slice of it.
     let all = &nodes[..];
     let mut last = number;
     let mut at = from;

@@ -9,9 +9,9 @@ use Rattle.terms.proofs.Sets.{sets-append, sets-over, inserted}
 use Rattle.numbers.specs.Blocks.{Expr, gate, nodes}
 use Rattle.writing.specs.Expressions.{operatorFirst, depth}
 use Rattle.grammar.specs.Grammar.{Level, MadeOf, xorLists, andLists, parts, Reads, alone, joined}
-use Rattle.grammar.specs.Machine.{want, had, dead, stop, from, Stands}
+use Rattle.grammar.specs.Machine.{want, had, dead, stop, from, Spans}
 use Rattle.grammar.proofs.Complete.{passes, sign}
-use Rattle.grammar.proofs.From.{after, goes}
+use Rattle.grammar.proofs.From.{rest, after, goes}
 use Rattle.spelling.specs.declared.Sign.the-variants.{Nothing, Broken}
 use Rattle.spelling.specs.Spelling.{numberOf, levelOf, signAt}
 use Rattle.spelling.proofs.Signs.{Signed, sign-broken}
@@ -40,9 +40,9 @@ pub not-had : {d : ℕ} → had d ≡ dead → ⊥
 not-had e = let z : _≡_ {A = ℕ} 0 1 = cc in omega arith
 
 module _ (s : List ℕ) where
-  pub stands-within : {at next : ℕ} {w : List ℕ} → Stands s at w next → at ≤ length s → next ≤ length s
+  pub stands-within : {at next : ℕ} {w : List ℕ} → Spans s at w next → at ≤ length s → next ≤ length s
   stands-within {at} {next} {w} x h =
-      omega (arith, x .end, ap length (x .text), length-append w (drop next s), length-drop at s, length-drop next s)
+      omega (arith, x .end, ap length (rest s x), length-append w (drop next s), length-drop at s, length-drop next s)
 
   -- what an answer says, once it is known which it is
   pub took :
@@ -55,7 +55,7 @@ module _ (s : List ℕ) where
       from s (want around) at ≡ stop k
   stopped around level at first l m e h = subst (λ (r : Piece). Parses s around level at first l m r) e h
 
-  pub passed : {around : ℕ} {level : Level} {at next : ℕ} {w : List ℕ} {t : Expr} → Stands s at w next → Reads around level w t
+  pub passed : {around : ℕ} {level : Level} {at next : ℕ} {w : List ℕ} {t : Expr} → Spans s at w next → Reads around level w t
       → from s (want around) at ≡ from s (had around) next
   passed x y = goes s x (passes y) not-had
 
@@ -74,7 +74,7 @@ module _ (s : List ℕ) where
     pub flat : deep ≤ count
 
   pub sized :
-      {around : ℕ} {level : Level} {at next count deep : ℕ} {w : List ℕ} {t : Expr} → Stands s at w next → Reads around level w t → count ≡ nodes t →
+      {around : ℕ} {level : Level} {at next count deep : ℕ} {w : List ℕ} {t : Expr} → Spans s at w next → Reads around level w t → count ≡ nodes t →
       deep ≡ depth t → Sized at next count deep
   sized {t = t} x y e f =
       record { some = omega (arith, some-nodes t); long = omega (arith, x .end, reads-long y); flat = omega (arith, no-deeper t) }
@@ -84,7 +84,7 @@ module _ (s : List ℕ) where
     pub text : List ℕ
     pub tree : Expr
     pub reads : Reads around list text tree
-    pub stands : Stands s at text p
+    pub stands : Spans s at text p
     pub put : m ≡ sets l first (operatorFirst tree)
     pub counted : n ≡ nodes tree
     pub measured : d ≡ depth tree

@@ -13,7 +13,7 @@ use Rattle.writing.specs.Expressions.{operatorFirst}
 use Rattle.writing.proofs.Back.{ref-back}
 use Rattle.grammar.specs.Grammar.{bang, opening, closing, spaces, mostOpen, Level, orList, xorList, andList, part, MadeOf, xorLists, andLists, parts}
 use Rattle.grammar.specs.Grammar.{Reads, alone, joined, named, negated, grouped}
-use Rattle.grammar.specs.Machine.{want, had, step, run, stop, from, Stands}
+use Rattle.grammar.specs.Machine.{want, had, step, run, stop, from, Spans}
 use Rattle.grammar.proofs.Complete.{Goes, _then_, opens, spaces-want}
 use Rattle.grammar.proofs.From.{byte, after, there, goes, halts}
 use Rattle.spelling.specs.declared.Named.the-variants.{NoName}
@@ -52,7 +52,7 @@ module _ (s : List ℕ) where
   -- after `!` n times and the spaces behind them, where the byte b stands; a zero was put over l for each
   pub record Nots (around at first : ℕ) (l m : List ℕ) (p n b : ℕ) : Type 0 where
     pub text : List ℕ
-    pub stands : Stands s at text p
+    pub stands : Spans s at text p
     pub wraps : (w : List ℕ) (t : Expr) → Reads around part w t → Reads around part (text ++ w) (nots n t)
     pub over : Goes (want around) text (want around)
     pub put : m ≡ sets l first (zeros n)
@@ -82,7 +82,7 @@ module _ (s : List ℕ) where
       pub inside : (x : ℕ) → 0 < x → b ≡ x → p < length s
       inside x h e = there s p x h (sym (g .here) ∙ e)
 
-      this : (x : ℕ) → 0 < x → b ≡ x → Stands s p (x ∷ []) (p + 1)
+      this : (x : ℕ) → 0 < x → b ≡ x → Spans s p (x ∷ []) (p + 1)
       this x h e = byte s p x (inside x h e) (sym (g .here) ∙ e)
 
       pub one-not : {m′ : List ℕ} {q b′ : ℕ} → b ≡ bang → m′ ≡ set m (first + n) 0 → Skipped s (p + 1) q → b′ ≡ byteAt s q

@@ -9,7 +9,7 @@ use Rattle.wire.specs.Number.{byteAt}
 use Rattle.grammar.specs.Grammar.{closing, orList}
 use Rattle.grammar.specs.Machine.{State, want, had, dead, closes, stop, from}
 use Rattle.grammar.proofs.Places.{bad-at}
-use Rattle.grammar.proofs.From.{killed}
+use Rattle.grammar.proofs.From.{rest, killed}
 use Rattle.spelling.proofs.Signs.{no-sign}
 use Rattle.parsing.specs.declared.Listed.{Listed}
 use Rattle.parsing.specs.declared.Reading.the-variants.{Tree}
@@ -38,5 +38,5 @@ module _ (s : List ℕ) where
     pub lists-all : length s ≤ next → Lists s (record { reading = Tree count deep; nodes = m })
     unfolding nodesOf
     lists-all h =
-        let e : s ≡ x .text = x .stands .text ∙ rw (drop-of-length-le s h) (append-nil (x .text)) in
+        let e : s ≡ x .text = rest s (x .stands) ∙ rw (drop-of-length-le s h) (append-nil (x .text)) in
         rw (x .counted, x .measured, x .put) (lists (x .tree) (rw e (x .reads)))

@@ -8,7 +8,7 @@ use Rattle.wire.specs.Number.{byteAt}
 use Rattle.numbers.specs.Blocks.{Expr, nodes}
 use Rattle.writing.specs.Expressions.{operatorFirst, depth}
 use Rattle.grammar.specs.Grammar.{space, Level, orList, xorList, andList, part, Reads}
-use Rattle.grammar.specs.Machine.{want, stop, from, Stands}
+use Rattle.grammar.specs.Machine.{want, stop, from, Spans}
 use Rattle.spelling.specs.declared.Sign.the-variants.{Nothing}
 use Rattle.spelling.specs.Spelling.{numberOf, signAt}
 use Rattle.parsing.specs.declared.Piece.{Piece}
@@ -37,7 +37,7 @@ pub record Took (s : List ℕ) (around : ℕ) (level : Level) (at first : ℕ) (
   pub text : List ℕ
   pub tree : Expr
   pub reads : Reads around level text tree
-  pub stands : Stands s at text next
+  pub stands : Spans s at text next
   pub put : m ≡ sets l first (operatorFirst tree)
   pub counted : count ≡ nodes tree
   pub measured : deep ≡ depth tree

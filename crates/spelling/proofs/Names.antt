@@ -11,7 +11,7 @@ use Rattle.terms.proofs.Choice.{pick-case, both}
 use Rattle.wire.specs.Number.{byteAt}
 use Rattle.numbers.specs.Blocks.{Bit, off, on, input, output, bitCode}
 use Rattle.grammar.specs.Grammar.{letterB, letterI, digit, Decimal, no-digits, one-more, Name, name-0, name-1, name-I, name-B}
-use Rattle.grammar.specs.Machine.{State, want, digits, dead, tens, mayBe, isDigit, toCome, inNumber, step, run, stop, from, Stands}
+use Rattle.grammar.specs.Machine.{State, want, digits, dead, tens, mayBe, isDigit, toCome, inNumber, step, run, stop, from, Spans}
 use Rattle.grammar.proofs.Complete.{may-be}
 use Rattle.grammar.proofs.From.{nothing, byte, after, there, goes, halts}
 use Rattle.spelling.specs.declared.Digits.{Digits}
@@ -49,7 +49,7 @@ module _ (least most : ℕ) (s : List ℕ) where
   record Numbered (j n : ℕ) (u : List ℕ) (at k v next : ℕ) : Type 0 where
     text : List ℕ
     number : Decimal (j + k) v (u ++ text)
-    stands : Stands s at text next
+    stands : Spans s at text next
     low : least ≤ v
     high : v ≤ most
 
@@ -111,7 +111,7 @@ pub record Called (s : List ℕ) (at v next : ℕ) : Type 0 where
   pub bit : Bit
   pub name : Name text bit
   pub code : v ≡ bitCode bit
-  pub stands : Stands s at text next
+  pub stands : Spans s at text next
 
 module _ (s : List ℕ) (at : ℕ) where
   -- a letter and its digits

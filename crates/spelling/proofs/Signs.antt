@@ -10,7 +10,7 @@ use Rattle.terms.specs.Choice.{pick}
 use Rattle.terms.proofs.Choice.{pick-case}
 use Rattle.wire.specs.Number.{byteAt}
 use Rattle.grammar.specs.Grammar.{closing, Level, orList, xorList, andList, part, Operator, and-sign, nand-sign, xor-sign, or-sign, nor-sign}
-use Rattle.grammar.specs.Machine.{State, had, banged, dead, closes, step, stop, from, Stands}
+use Rattle.grammar.specs.Machine.{State, had, banged, dead, closes, step, stop, from, Spans}
 use Rattle.grammar.proofs.From.{byte, after, there, halts}
 use Rattle.spelling.specs.declared.Sign.{Sign}
 use Rattle.spelling.specs.declared.Sign.the-variants.{Of, Nothing, Broken}
@@ -21,7 +21,7 @@ use Rattle.spelling.proofs.Names.{eats}
 pub record Signed (s : List ℕ) (list : Level) (at o next : ℕ) : Type 0 where
   pub text : List ℕ
   pub sign : Operator list o text
-  pub stands : Stands s at text next
+  pub stands : Spans s at text next
 
 level-back : (l : Level) → levelOf (numberOf l) ≡ l
 level-back orList = refl
@@ -32,7 +32,7 @@ level-back part = refl
 module _ (s : List ℕ) (level at o next : ℕ) where
   -- the level looked for is the operator's
   of-level :
-      (its : Level) (op end : ℕ) (w : List ℕ) → Operator its op w → Stands s at w end → ofLevel level (numberOf its) op end ≡ Of o next →
+      (its : Level) (op end : ℕ) (w : List ℕ) → Operator its op w → Spans s at w end → ofLevel level (numberOf its) op end ≡ Of o next →
       Signed s (levelOf level) at o next
   of-level its op end w x st =
       pick-case (λ (r : Sign). r ≡ Of o next → Signed s (levelOf level) at o next) (eqb level (numberOf its))
@@ -43,10 +43,10 @@ module _ (s : List ℕ) (level at o next : ℕ) where
       record { text = w; sign = rw (← c, ← a) x; stands = rw (← b) st })
       (λ _ f. let z : _≡_ {A = ℕ} 0 1 = cc in absurd (omega arith))
 
-  one-byte : (x : ℕ) → 0 < x → byteAt s at ≡ x → Stands s at (x ∷ []) (at + 1)
+  one-byte : (x : ℕ) → 0 < x → byteAt s at ≡ x → Spans s at (x ∷ []) (at + 1)
   one-byte x h e = byte s at x (there s at x h e) e
 
-  two-bytes : (x : ℕ) → 0 < x → byteAt s at ≡ 33 → byteAt s (at + 1) ≡ x → Stands s at (33 ∷ (x ∷ [])) (at + 1 + 1)
+  two-bytes : (x : ℕ) → 0 < x → byteAt s at ≡ 33 → byteAt s (at + 1) ≡ x → Spans s at (33 ∷ (x ∷ [])) (at + 1 + 1)
   two-bytes x h e f = after s (one-byte 33 (omega arith) e) (byte s (at + 1) x (there s (at + 1) x h f) f)
 
   pub sign-of : signAt level s at ≡ Of o next → Signed s (levelOf level) at o next

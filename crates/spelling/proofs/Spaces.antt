@@ -13,7 +13,8 @@ use borrow.Author.Tests.{eq-eqb, ne-eqb, eqb-true, eqb-false}
 use Rattle.terms.proofs.Choice.{pick-case, le-or-lt}
 use Rattle.wire.specs.Number.{byteAt}
 use Rattle.grammar.specs.Grammar.{space, spaces}
-use Rattle.grammar.specs.Machine.{Stands}
+use Rattle.grammar.specs.Machine.{Spans}
+use Rattle.grammar.proofs.From.{stands-there}
 use Rattle.spelling.specs.Spelling.{leading, afterSpaces}
 
 -- the spaces that a text begins with, and what is behind them
@@ -35,7 +36,7 @@ leading-few (x ∷ xs) = pick-case (λ (n : ℕ). n ≤ suc (length xs)) (eqb x 
 -- spaces from a place on up to another, where none follows
 pub record Skipped (s : List ℕ) (at next : ℕ) : Type 0 where
   pub n : ℕ
-  pub stands : Stands s at (spaces n) next
+  pub stands : Spans s at (spaces n) next
   pub full : byteAt s next ≡ space → ⊥
 
 pub skipped : (s : List ℕ) (at : ℕ) {next : ℕ} → next ≡ afterSpaces s at → Skipped s at next
@@ -46,7 +47,7 @@ skipped s at {next} e =
     let f : getD (drop n (drop at s)) 0 0 ≡ byteAt s next = rw (drop-drop n at s, ← e) (getD-drop next s 0 0 ∙ rw i) in
     record {
       n = n;
-      stands = record { text = leading-split (drop at s) ∙ rw (drop-drop n at s, ← e); end = rw (length-replicate n space) e };
+      stands = record { stands = stands-there s (spaces n) _ at (leading-split (drop at s)); end = rw (length-replicate n space) e };
       full = λ z. leading-full (drop at s) (f ∙ z);
     }
 
