@@ -1,4 +1,4 @@
-# Sourced, at the repository's root, by bin/console, bin/formula, tests/differential/run, bench/run and bench/native: builds a C program against the library.
+# Sourced, at the repository's root, by bin/console, bin/formula, tests/differential/run, tests/stack.sh, bench/run and bench/native: builds a C program against the library.
 #   prove_archive                           proves and builds the archive where it is not up to date
 #   choose_library standin|archive|native   sets compiler, library and runner; if it cannot be, says so and ends with 2
 #   build PROGRAM SOURCE...                 builds and leaves it at $out/PROGRAM, to be run by: $runner $out/PROGRAM
