@@ -1,15 +1,16 @@
 -- Every text has one reading or none: each reading is what one machine builds, byte by byte. Assumes nothing.
 use Prim.Native.Nat.{ℕ, zero, suc, _+_, _*_, _-_}
 use mathlib.Core.Path.{_≡_, refl, sym, ap, _∙_}
-use mathlib.Core.List.{List, [], _∷_, _++_}
+use mathlib.Core.List.{List, _∷_}
 use native.Mathlib.Omega.{arith}
 use lib.Dec.{eqb}
 use Rattle.terms.specs.Choice.{pick}
 use Rattle.numbers.specs.Blocks.{Bit, off, on, input, output, Expr, ref, inv, gate}
-use Rattle.grammar.specs.Grammar.{space, bang, ampersand, opening, closing, caret, bar, letterI, digit, spaces, Decimal, no-digits, one-more}
+use Rattle.grammar.specs.Grammar.{space, bang, ampersand, opening, closing, caret, bar, letterI, digit, spaces, Decimal}
 use Rattle.grammar.specs.Grammar.{Name, name-0, name-1, name-I, name-B, Level, orList, xorList, andList, part, xorLists, andLists, parts}
 use Rattle.grammar.specs.Grammar.{Operator, and-sign, nand-sign, xor-sign, or-sign, nor-sign, Reads, alone, joined, named, negated, grouped}
 use Rattle.grammar.specs.Grammar.{Formula}
+use Rattle.grammar.proofs.Machines.{run, Goes, _then_, over-spaces, over-digits}
 
 abbrev Turn : Type 0
 Turn = Expr → Expr
@@ -56,10 +57,6 @@ step (banged v g h k) x = pick (eqb x ampersand) (want (gate 4 v) g h k) (want s
 step (digits l o n f g h k) x = toCome l o (10 * n + (x - 48)) f g h k
 step lost x = lost
 
-run : Builder → List ℕ → Builder
-run st [] = st
-run st (x ∷ xs) = run (step st x) xs
-
 tree : Builder → Expr
 tree (want f g h k) = ref off
 tree (had v g h k) = h (g v)
@@ -67,64 +64,48 @@ tree (banged v g h k) = ref off
 tree (digits l o n f g h k) = ref off
 tree lost = ref off
 
-run-append : (st : Builder) (a b : List ℕ) → run st (a ++ b) ≡ run (run st a) b
-unfolding run
-run-append st [] b = refl
-run-append st (x ∷ a) b = run-append (step st x) a b
-
--- the machine goes over a text from one state to another
-record Goes (st : Builder) (w : List ℕ) (end : Builder) : Type 0 where
-  there : run st w ≡ end
-
-infixr 20 _then_
-_then_ : {st mid end : Builder} {a b : List ℕ} → Goes st a mid → Goes mid b end → Goes st (a ++ b) end
-_then_ {st} {a = a} {b = b} x y = record { there = run-append st a b ∙ rw (x .there) (y .there) }
-
 -- what a reading of each level does to the machine
 abbrev Does : Level → List ℕ → Expr → Type 0
-Does part w t = (f g h : Turn) (k : Stack) → Goes (want f g h k) w (had (f t) g h k)
-Does andList w t = (g h : Turn) (k : Stack) → Goes (want same g h k) w (had t g h k)
-Does xorList w t = (h : Turn) (k : Stack) → (v : Expr) × (g : Turn) × (g v ≡ t) × Goes (want same same h k) w (had v g h k)
-Does orList w t = (k : Stack) → (v : Expr) × (g : Turn) × (h : Turn) × (h (g v) ≡ t) × Goes (want same same same k) w (had v g h k)
+Does part w t = (f g h : Turn) (k : Stack) → Goes step (want f g h k) w (had (f t) g h k)
+Does andList w t = (g h : Turn) (k : Stack) → Goes step (want same g h k) w (had t g h k)
+Does xorList w t = (h : Turn) (k : Stack) → (v : Expr) × (g : Turn) × (g v ≡ t) × Goes step (want same same h k) w (had v g h k)
+Does orList w t = (k : Stack) → (v : Expr) × (g : Turn) × (h : Turn) × (h (g v) ≡ t) × Goes step (want same same same k) w (had v g h k)
 
 module _ (f g h : Turn) (k : Stack) where
-  spaces-want : (n : ℕ) → Goes (want f g h k) (spaces n) (want f g h k)
-  unfolding run step
-  spaces-want zero = record { there = refl }
-  spaces-want (suc n) = record { there = spaces-want n .there }
+  spaces-want : (n : ℕ) → Goes step (want f g h k) (spaces n) (want f g h k)
+  unfolding step
+  spaces-want = over-spaces step (want f g h k) refl
 
-  spaces-had : (v : Expr) (n : ℕ) → Goes (had v g h k) (spaces n) (had v g h k)
-  unfolding run step
-  spaces-had v zero = record { there = refl }
-  spaces-had v (suc n) = record { there = spaces-had v n .there }
+  spaces-had : (v : Expr) (n : ℕ) → Goes step (had v g h k) (spaces n) (had v g h k)
+  unfolding step
+  spaces-had v = over-spaces step (had v g h k) refl
 
-  number : (o : ℕ → Bit) (l : ℕ) {j n : ℕ} {w : List ℕ} → Decimal j n w → Goes (toCome (j + l) o 0 f g h k) w (toCome l o n f g h k)
-  unfolding run step toCome
-  number o l no-digits = let e : 0 + l ≡ l = omega arith in rw e (record { there = refl })
-  number o l (one-more {k = j} {n = n} {w = w} d _ x) =
-      let e : suc j + l ≡ j + suc l = omega arith in
-      let v : 10 * n + ((48 + d) - 48) ≡ 10 * n + d = omega arith in
-      rw e (number o (suc l) x then record { there = ap (λ (a : ℕ). toCome l o a f g h k) v })
+  one-on : (o : ℕ → Bit) (l n d : ℕ) → step (toCome (suc l) o n f g h k) (digit d) ≡ toCome l o (10 * n + d) f g h k
+  unfolding step toCome
+  one-on o l n d = let v : 10 * n + ((48 + d) - 48) ≡ 10 * n + d = omega arith in ap (λ (a : ℕ). toCome l o a f g h k) v
 
-  name : {w : List ℕ} {b : Bit} → Name w b → Goes (want f g h k) w (had (f (ref b)) g h k)
+  number : (o : ℕ → Bit) {j n : ℕ} {w : List ℕ} → Decimal j n w → Goes step (toCome (j + 0) o 0 f g h k) w (toCome 0 o n f g h k)
+  number o x = over-digits step (λ l n. toCome l o n f g h k) (λ l n. Unit {0}) (λ l n d h _. tt) (λ l n d h _. one-on o l n d) 0 x tt
+
+  name : {w : List ℕ} {b : Bit} → Name w b → Goes step (want f g h k) w (had (f (ref b)) g h k)
   unfolding run step toCome
   name name-0 = record { there = refl }
   name name-1 = record { there = refl }
   name (name-I {n = n} _ x) =
       let v : n + 1 - 1 ≡ n = omega arith in
-      record { there = number (λ (m : ℕ). input (m - 1)) 0 x .there ∙ ap (λ (a : ℕ). had (f (ref (input a))) g h k) v }
-  name (name-B _ x) = record { there = number output 0 x .there }
+      record { there = number (λ (m : ℕ). input (m - 1)) x .there ∙ ap (λ (a : ℕ). had (f (ref (input a))) g h k) v }
+  name (name-B _ x) = record { there = number output x .there }
 
-op-and : {o : ℕ} {w : List ℕ} → Operator andList o w → (v : Expr) (g h : Turn) (k : Stack) → Goes (had v g h k) w (want (gate o v) g h k)
+op-and : {o : ℕ} {w : List ℕ} → Operator andList o w → (v : Expr) (g h : Turn) (k : Stack) → Goes step (had v g h k) w (want (gate o v) g h k)
 unfolding run step
 op-and and-sign v g h k = record { there = refl }
 op-and nand-sign v g h k = record { there = refl }
 
-op-xor : {o : ℕ} {w : List ℕ} → Operator xorList o w → (v : Expr) (g h : Turn) (k : Stack) → Goes (had v g h k) w (want same (gate o (g v)) h k)
+op-xor : {o : ℕ} {w : List ℕ} → Operator xorList o w → (v : Expr) (g h : Turn) (k : Stack) → Goes step (had v g h k) w (want same (gate o (g v)) h k)
 unfolding run step
 op-xor xor-sign v g h k = record { there = refl }
 
-op-or : {o : ℕ} {w : List ℕ} → Operator orList o w → (v : Expr) (g h : Turn) (k : Stack) → Goes (had v g h k) w (want same same (gate o (h (g v))) k)
+op-or : {o : ℕ} {w : List ℕ} → Operator orList o w → (v : Expr) (g h : Turn) (k : Stack) → Goes step (had v g h k) w (want same same (gate o (h (g v))) k)
 unfolding run step
 op-or or-sign v g h k = record { there = refl }
 op-or nor-sign v g h k = record { there = refl }
@@ -153,11 +134,11 @@ does (named {b = b} m n x) = λ f g h k. spaces-want f g h k m then name f g h k
 does (negated m x) = λ f g h k. spaces-want f g h k m then record { there = does x (λ e. f (inv e)) g h k .there }
 does (grouped {w = w} {t = t} m n _ x) =
     λ f g h k. let r = does x (under f g h k) in
-    let behind : Goes (had (r .0) (r .1) (r .2) (under f g h k)) (closing ∷ spaces n) (had (f t) g h k) =
-    record { there = ap (λ (e : Expr). run (had (f e) g h k) (spaces n)) (r .3) ∙ spaces-had f g h k (f t) n .there } in
+    let behind : Goes step (had (r .0) (r .1) (r .2) (under f g h k)) (closing ∷ spaces n) (had (f t) g h k) =
+    record { there = ap (λ (e : Expr). run step (had (f e) g h k) (spaces n)) (r .3) ∙ spaces-had f g h k (f t) n .there } in
     spaces-want f g h k m then record { there = (r .4 then behind) .there }
 
-built : {s : List ℕ} {t : Expr} → Formula s t → tree (run (want same same same bottom) s) ≡ t
+built : {s : List ℕ} {t : Expr} → Formula s t → tree (run step (want same same same bottom) s) ≡ t
 unfolding tree
 built x = let r = does x bottom in ap tree (r .4 .there) ∙ r .3
 

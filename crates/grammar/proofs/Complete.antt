@@ -1,7 +1,7 @@
 -- What the grammar reads, the acceptor passes over. Assumes nothing.
 use Prim.Native.Nat.{ℕ, zero, suc, _+_, _*_, _-_, _<_, _≤_}
-use mathlib.Core.Path.{_≡_, refl, _∙_}
-use mathlib.Core.List.{List, [], _∷_, _++_}
+use mathlib.Core.Path.{_≡_, refl}
+use mathlib.Core.List.{List, [], _∷_}
 use mathlib.Core.Bool.{true}
 use native.Mathlib.Nat.{add-mul, mul-assoc, mul-left-comm, mul-le-mul-right}
 use native.Mathlib.Omega.{arith}
@@ -10,22 +10,10 @@ use borrow.Author.Tests.{le-leb, lt-ltb, leb-true, ltb-true}
 use Rattle.terms.proofs.Choice.{both}
 use Rattle.terms.proofs.Every.{both-hold}
 use Rattle.numbers.specs.Blocks.{Bit, Expr}
-use Rattle.grammar.specs.Grammar.{opening, closing, digit, spaces, Decimal, no-digits, one-more, Name, name-0, name-1, name-I, name-B, Level}
+use Rattle.grammar.specs.Grammar.{opening, closing, digit, spaces, Decimal, Name, name-0, name-1, name-I, name-B, Level}
 use Rattle.grammar.specs.Grammar.{Operator, and-sign, nand-sign, xor-sign, or-sign, nor-sign, Reads, alone, joined, named, negated, grouped}
-use Rattle.grammar.specs.Machine.{State, want, had, digits, tens, mayBe, isDigit, toCome, inNumber, closes, step, run}
-
-pub run-append : (st : State) (a b : List ℕ) → run st (a ++ b) ≡ run (run st a) b
-unfolding run
-run-append st [] b = refl
-run-append st (x ∷ a) b = run-append (step st x) a b
-
--- the acceptor goes over a text from one state to another
-pub record Goes (st : State) (w : List ℕ) (end : State) : Type 0 where
-  pub there : run st w ≡ end
-
-infixr 20 _then_
-pub _then_ : {st mid end : State} {a b : List ℕ} → Goes st a mid → Goes mid b end → Goes st (a ++ b) end
-_then_ {st} {a = a} {b = b} x y = record { there = run-append st a b ∙ rw (x .there) (y .there) }
+use Rattle.grammar.specs.Machine.{want, had, digits, tens, mayBe, isDigit, toCome, inNumber, closes, step}
+use Rattle.grammar.proofs.Machines.{run, Goes, _then_, over-spaces, over-digits}
 
 pub some-tens : (k : ℕ) → 1 ≤ tens k
 unfolding tens
@@ -64,38 +52,35 @@ unfolding step inNumber
 next-digit k n least most d v h e = let a : 10 * n + ((48 + v) - 48) ≡ 10 * n + v = omega arith in rw (a, is-digit v h, e)
 
 module _ (d : ℕ) where
-  pub spaces-want : (n : ℕ) → Goes (want d) (spaces n) (want d)
-  unfolding run step
-  spaces-want zero = record { there = refl }
-  spaces-want (suc n) = record { there = spaces-want n .there }
+  pub spaces-want : (n : ℕ) → Goes step (want d) (spaces n) (want d)
+  unfolding step
+  spaces-want = over-spaces step (want d) refl
 
-  pub spaces-had : (n : ℕ) → Goes (had d) (spaces n) (had d)
-  unfolding run step
-  spaces-had zero = record { there = refl }
-  spaces-had (suc n) = record { there = spaces-had n .there }
+  pub spaces-had : (n : ℕ) → Goes step (had d) (spaces n) (had d)
+  unfolding step
+  spaces-had = over-spaces step (had d) refl
 
-  number : (least most l : ℕ) {j n : ℕ} {w : List ℕ} → Decimal j n w → mayBe least most l n ≡ true
-      → Goes (toCome (j + l) 0 least most d) w (toCome l n least most d)
-  unfolding run toCome
-  number least most l no-digits e = let a : 0 + l ≡ l = omega arith in rw a (record { there = refl })
-  number least most l (one-more {k = j} {n = n} v h x) e =
-      let a : suc j + l ≡ j + suc l = omega arith in
-      rw a (number least most (suc l) x (may-before least most l n v h e) then record { there = next-digit l n least most d v h e })
+  number : (least most : ℕ) {j n : ℕ} {w : List ℕ} → Decimal j n w → mayBe least most 0 n ≡ true
+      → Goes step (toCome (j + 0) 0 least most d) w (toCome 0 n least most d)
+  unfolding toCome
+  number least most =
+      over-digits step (λ l n. toCome l n least most d) (λ l n. mayBe least most l n ≡ true) (may-before least most)
+      (λ l n v. next-digit l n least most d v) 0
 
-  whole-number : (least most : ℕ) {j n : ℕ} {w : List ℕ} → Decimal j n w → least ≤ n → n ≤ most → Goes (toCome j 0 least most d) w (had d)
+  whole-number : (least most : ℕ) {j n : ℕ} {w : List ℕ} → Decimal j n w → least ≤ n → n ≤ most → Goes step (toCome j 0 least most d) w (had d)
   unfolding toCome tens
   whole-number least most {j} {n} x l h =
       let a : j + 0 ≡ j = omega arith in
-      rw a at (number least most 0 x (may least most 0 n (omega arith) (omega arith)))
+      rw a at (number least most x (may least most 0 n (omega arith) (omega arith)))
 
-  pub name : {w : List ℕ} {b : Bit} → Name w b → Goes (want d) w (had d)
+  pub name : {w : List ℕ} {b : Bit} → Name w b → Goes step (want d) w (had d)
   unfolding run step
   name name-0 = record { there = refl }
   name name-1 = record { there = refl }
   name (name-I h x) = record { there = whole-number 1 32 x (omega arith) (omega arith) .there }
   name (name-B h x) = record { there = whole-number 0 199 x (omega arith) (omega arith) .there }
 
-  pub sign : {list : Level} {o : ℕ} {w : List ℕ} → Operator list o w → Goes (had d) w (want d)
+  pub sign : {list : Level} {o : ℕ} {w : List ℕ} → Operator list o w → Goes step (had d) w (want d)
   unfolding run step
   sign and-sign = record { there = refl }
   sign nand-sign = record { there = refl }
@@ -103,16 +88,16 @@ module _ (d : ℕ) where
   sign or-sign = record { there = refl }
   sign nor-sign = record { there = refl }
 
-  pub opens : d < 16 → Goes (want d) (opening ∷ []) (want (suc d))
+  pub opens : d < 16 → Goes step (want d) (opening ∷ []) (want (suc d))
   unfolding run step
   opens h = record { there = rw (lt-ltb d 16 h) }
 
-pub passes : {d : ℕ} {l : Level} {w : List ℕ} {t : Expr} → Reads d l w t → Goes (want d) w (had d)
+pub passes : {d : ℕ} {l : Level} {w : List ℕ} {t : Expr} → Reads d l w t → Goes step (want d) w (had d)
 unfolding run step closes
 passes (alone c x) = passes x
 passes (joined {around = d} c x o y) = passes x then sign d o then passes y
 passes (named {around = d} m n x) = spaces-want d m then name d x then spaces-had d n
 passes (negated {around = d} m x) = spaces-want d m then record { there = passes x .there }
 passes (grouped {around = d} m n h x) =
-    let behind : Goes (had (suc d)) (closing ∷ spaces n) (had d) = record { there = spaces-had d n .there } in
+    let behind : Goes step (had (suc d)) (closing ∷ spaces n) (had d) = record { there = spaces-had d n .there } in
     spaces-want d m then opens d h then passes x then behind

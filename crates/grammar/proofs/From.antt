@@ -11,7 +11,7 @@ use lib.Seq.{drop-cons}
 use Rattle.terms.proofs.Choice.{le-or-lt}
 use Rattle.wire.specs.Facts.{Stands}
 use Rattle.grammar.specs.Machine.{State, dead, step, stop, ended, scan, from, Spans}
-use Rattle.grammar.proofs.Complete.{Goes}
+use Rattle.grammar.proofs.Machines.{Goes}
 use Rattle.grammar.proofs.Places.{scan-on}
 
 module _ (s : List ℕ) where
@@ -51,7 +51,7 @@ module _ (s : List ℕ) where
   there at x h e = ⊎-elim (λ l. absurd (omega (arith, List·getD-eq-default s 0 l))) (λ l. l) (le-or-lt (length s) at)
 
   -- over a text that does not kill it
-  pub goes : {st end : State} {at next : ℕ} {w : List ℕ} → Spans s at w next → Goes st w end → (end ≡ dead → ⊥) → from s st at ≡ from s end next
+  pub goes : {st end : State} {at next : ℕ} {w : List ℕ} → Spans s at w next → Goes step st w end → (end ≡ dead → ⊥) → from s st at ≡ from s end next
   unfolding from
   goes {st} {end} {at} {next} {w} x g live =
       ap (scan st at) (rest x) ∙ scan-on w (drop next s) st end at (g .there) live ∙ rw (x .end) refl

@@ -1,3 +1,4 @@
+pub mod Machines
 pub mod Builds
 pub mod Complete
 pub mod Sound

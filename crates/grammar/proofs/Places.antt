@@ -12,13 +12,14 @@ use lib.Seq.{take-add}
 use lib.Dec.{ltb, eqb}
 use Rattle.terms.proofs.Choice.{pick-case, both}
 use Rattle.grammar.specs.Readings.{Begins, goes-on, BadAt, Judged, good, bad}
-use Rattle.grammar.specs.Machine.{State, want, had, banged, digits, dead, tens, mayBe, isDigit, toCome, inNumber, closes, step, run, Seen}
+use Rattle.grammar.specs.Machine.{State, want, had, banged, digits, dead, tens, mayBe, isDigit, toCome, inNumber, closes, step, Seen}
 use Rattle.grammar.specs.Machine.{whole, stop, ended, alive, scan, from}
-use Rattle.grammar.proofs.Complete.{run-append, some-tens, may, may-be, next-digit, passes}
+use Rattle.grammar.proofs.Machines.{run, run-append}
+use Rattle.grammar.proofs.Complete.{some-tens, may, may-be, next-digit, passes}
 use Rattle.grammar.proofs.Sound.{Good, reading, sound}
 
 -- dead stays dead
-run-dead : (xs : List ℕ) → run dead xs ≡ dead
+run-dead : (xs : List ℕ) → run step dead xs ≡ dead
 unfolding run step
 run-dead [] = refl
 run-dead (x ∷ xs) = run-dead xs
@@ -36,18 +37,18 @@ dead-or dead = inl refl
 
 -- over a text that does not kill it
 pub scan-on :
-    (w z : List ℕ) (st end : State) (at : ℕ) → run st w ≡ end → (end ≡ dead → ⊥) → scan st at (w ++ z) ≡ scan end (at + length w) z
+    (w z : List ℕ) (st end : State) (at : ℕ) → run step st w ≡ end → (end ≡ dead → ⊥) → scan st at (w ++ z) ≡ scan end (at + length w) z
 unfolding run scan
 scan-on [] z st end at e live = rw (add-zero at, e)
 scan-on (x ∷ w) z st end at e live =
-    ⊎-elim (λ d. absurd (live (sym e ∙ ap (λ (q : State). run q w) d ∙ run-dead w)))
+    ⊎-elim (λ d. absurd (live (sym e ∙ ap (λ (q : State). run step q w) d ∙ run-dead w)))
     (λ a. let i : (at + 1) + length w ≡ at + suc (length w) = omega arith in
     a at _ ∙ (rw i at (scan-on w z (step st x) end (at + 1) e live)))
     (dead-or (step st x))
 
 -- how a text can be finished from a state on
 data Ends (st : State) : Type 0 where
-  ends : (z : List ℕ) → run st z ≡ had 0 → Ends st
+  ends : (z : List ℕ) → run step st z ≡ had 0 → Ends st
 
 one-more : {st end : State} (x : ℕ) → step st x ≡ end → Ends end → Ends st
 unfolding run
@@ -146,9 +147,9 @@ record Stops (st : State) (p : ℕ) (xs : List ℕ) (k : ℕ) : Type 0 where
   m : ℕ
   at : k ≡ p + m
   inside : m ≤ length xs
-  finished : Ends (run st (take m xs))
-  no-more : m < length xs → run st (take (suc m) xs) ≡ dead
-  not-whole : run st xs ≡ had 0 → ⊥
+  finished : Ends (run step st (take m xs))
+  no-more : m < length xs → run step st (take (suc m) xs) ≡ dead
+  not-whole : run step st xs ≡ had 0 → ⊥
 
 stops : (xs : List ℕ) (st : State) (p k : ℕ) → Live st → scan st p xs ≡ stop k → Stops st p xs k
 unfolding scan run
@@ -165,7 +166,7 @@ stops (x ∷ xs) st p k l e =
       inside = omega arith;
       finished = finishes st l;
       no-more = λ h. d;
-      not-whole = λ w. not-dead w (ap (λ (q : State). run q xs) d ∙ run-dead xs);
+      not-whole = λ w. not-dead w (ap (λ (q : State). run step q xs) d ∙ run-dead xs);
     })
     (λ a. let r = stops xs (step st x) (p + 1) k a (sym (live-on (step st x) a _ _) ∙ e) in
     record {
@@ -178,15 +179,15 @@ stops (x ∷ xs) st p k l e =
     })
     (live-step st x l)
 
-begins : (s : List ℕ) → Ends (run (want 0) s) → Begins s
-begins s (ends z e) = go (sound (s ++ z) (run-append (want 0) s z ∙ e))
+begins : (s : List ℕ) → Ends (run step (want 0) s) → Begins s
+begins s (ends z e) = go (sound (s ++ z) (run-append step (want 0) s z ∙ e))
   where
     go : Good (s ++ z) → Begins s
     go (reading t x) = goes-on z t x
 
-not-begun : (s : List ℕ) → run (want 0) s ≡ dead → Begins s → ⊥
+not-begun : (s : List ℕ) → run step (want 0) s ≡ dead → Begins s → ⊥
 not-begun s e (goes-on z t x) =
-    not-dead (sym (run-append (want 0) s z) ∙ passes x .there) (ap (λ (q : State). run q z) e ∙ run-dead z)
+    not-dead (sym (run-append step (want 0) s z) ∙ passes x .there) (ap (λ (q : State). run step q z) e ∙ run-dead z)
 
 pub bad-at : (s : List ℕ) (k : ℕ) → from s (want 0) 0 ≡ stop k → BadAt s k
 unfolding from
@@ -208,7 +209,7 @@ ended-whole (banged d) p e = let z : _≡_ {A = ℕ} 0 1 = cc in absurd (omega a
 ended-whole (digits k n least most d) p e = let z : _≡_ {A = ℕ} 0 1 = cc in absurd (omega arith)
 ended-whole dead p e = let z : _≡_ {A = ℕ} 0 1 = cc in absurd (omega arith)
 
-to-end : (xs : List ℕ) (st : State) (p : ℕ) → Live st → scan st p xs ≡ whole → run st xs ≡ had 0
+to-end : (xs : List ℕ) (st : State) (p : ℕ) → Live st → scan st p xs ≡ whole → run step st xs ≡ had 0
 unfolding scan run
 to-end [] st p l e = ended-whole st p e
 to-end (x ∷ xs) st p l e =

@@ -12,7 +12,8 @@ use Rattle.grammar.specs.Grammar.{space, bang, ampersand, opening, closi
 use Rattle.grammar.specs.Grammar.{one-more, Name, name-0, name-1, name-I, name-B, Level, orList, xorList, andList, part, MadeOf, xorLists}
 use Rattle.grammar.specs.Grammar.{andLists, parts, Operator, and-sign, nand-sign, xor-sign, or-sign, nor-sign, mostOpen, Reads, alone, joined}
 use Rattle.grammar.specs.Grammar.{named, negated, grouped, Formula}
-use Rattle.grammar.specs.Machine.{State, want, had, banged, digits, dead, tens, mayBe, isDigit, toCome, inNumber, closes, step, run}
+use Rattle.grammar.specs.Machine.{State, want, had, banged, digits, dead, tens, mayBe, isDigit, toCome, inNumber, closes, step}
+use Rattle.grammar.proofs.Machines.{run}
 use Rattle.grammar.proofs.Complete.{may-be}
 
 -- after this text a thing of this level is wanted, inside d parentheses
@@ -223,7 +224,7 @@ keeps (banged d) x u h = step-banged d x h
 keeps (digits k n least most d) x u h = step-digits d k n least most x h
 keeps dead x u h = tt
 
-keeps-on : (st : State) (u xs : List ℕ) → Means st u → Means (run st xs) (u ++ xs)
+keeps-on : (st : State) (u xs : List ℕ) → Means st u → Means (run step st xs) (u ++ xs)
 unfolding run
 keeps-on st u [] h = rw (append-nil u) h
 keeps-on st u (x ∷ xs) h = rw (append-assoc u (x ∷ []) xs) at (keeps-on (step st x) (u ++ (x ∷ [])) xs (keeps st x u h))
@@ -239,6 +240,6 @@ all-had (it c x) = go c x
     go (first o c) x = absurd (no-list-of o)
     go (later o c y s) x = absurd (no-list-of o)
 
-pub sound : (s : List ℕ) → run (want 0) s ≡ had 0 → Good s
+pub sound : (s : List ℕ) → run step (want 0) s ≡ had 0 → Good s
 sound s e =
     all-had (had-or (subst (λ (st : State). Means st s) e (keeps-on (want 0) [] s (wants-part outer))))

@@ -63,10 +63,6 @@ step (banged d) x = pick (eqb x ampersand) (want d) (pick (eqb x bar) (want d) d
 step (digits k n least most d) x = inNumber k n least most d x
 step dead x = dead
 
-unfoldable pub run : State → List ℕ → State
-run st [] = st
-run st (x ∷ xs) = run (step st x) xs
-
 -- the whole text is passed over, or it stops at a place
 pub data Seen : Type 0 where
   whole : Seen

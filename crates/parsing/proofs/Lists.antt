@@ -11,6 +11,7 @@ use Rattle.writing.specs.Expressions.{operatorFirst, depth}
 use Rattle.grammar.specs.Grammar.{Level, MadeOf, xorLists, andLists, parts, Reads, alone, joined}
 use Rattle.grammar.specs.Machine.{want, had, dead, stop, from, Spans}
 use Rattle.grammar.proofs.Complete.{passes, sign}
+use Rattle.grammar.proofs.Places.{not-dead}
 use Rattle.grammar.proofs.From.{rest, after, goes}
 use Rattle.spelling.specs.declared.Sign.the-variants.{Nothing, Broken}
 use Rattle.spelling.specs.Spelling.{numberOf, levelOf, signAt}
@@ -36,9 +37,6 @@ number-back (suc (suc (suc n))) h = absurd (omega arith)
 pub not-want : {d : ℕ} → want d ≡ dead → ⊥
 not-want e = let z : _≡_ {A = ℕ} 0 1 = cc in omega arith
 
-pub not-had : {d : ℕ} → had d ≡ dead → ⊥
-not-had e = let z : _≡_ {A = ℕ} 0 1 = cc in omega arith
-
 module _ (s : List ℕ) where
   pub stands-within : {at next : ℕ} {w : List ℕ} → Spans s at w next → at ≤ length s → next ≤ length s
   stands-within {at} {next} {w} x h =
@@ -57,7 +55,7 @@ module _ (s : List ℕ) where
 
   pub passed : {around : ℕ} {level : Level} {at next : ℕ} {w : List ℕ} {t : Expr} → Spans s at w next → Reads around level w t
       → from s (want around) at ≡ from s (had around) next
-  passed x y = goes s x (passes y) not-had
+  passed x y = goes s x (passes y) (not-dead refl)
 
   pub no-sign-of : (level p : ℕ) → level < 3 → signAt level s p ≡ Nothing → NoSign (levelOf level) s p
   no-sign-of level p h e = rw (number-back level h) e

@@ -13,8 +13,9 @@ use Rattle.writing.specs.Expressions.{operatorFirst}
 use Rattle.writing.proofs.Back.{ref-back}
 use Rattle.grammar.specs.Grammar.{bang, opening, closing, spaces, mostOpen, Level, orList, xorList, andList, part, MadeOf, xorLists, andLists, parts}
 use Rattle.grammar.specs.Grammar.{Reads, alone, joined, named, negated, grouped}
-use Rattle.grammar.specs.Machine.{want, had, step, run, stop, from, Spans}
-use Rattle.grammar.proofs.Complete.{Goes, _then_, opens, spaces-want}
+use Rattle.grammar.specs.Machine.{want, had, step, stop, from, Spans}
+use Rattle.grammar.proofs.Machines.{run, Goes, _then_}
+use Rattle.grammar.proofs.Complete.{opens, spaces-want}
 use Rattle.grammar.proofs.From.{byte, after, there, goes, halts}
 use Rattle.spelling.specs.declared.Named.the-variants.{NoName}
 use Rattle.spelling.specs.Spelling.{nameAt}
@@ -54,7 +55,7 @@ module _ (s : List ℕ) where
     pub text : List ℕ
     pub stands : Spans s at text p
     pub wraps : (w : List ℕ) (t : Expr) → Reads around part w t → Reads around part (text ++ w) (nots n t)
-    pub over : Goes (want around) text (want around)
+    pub over : Goes step (want around) text (want around)
     pub put : m ≡ sets l first (zeros n)
     pub few : at + n ≤ p
     pub within : p ≤ length s

@@ -11,7 +11,8 @@ use Rattle.terms.proofs.Choice.{pick-case, both}
 use Rattle.wire.specs.Number.{byteAt}
 use Rattle.numbers.specs.Blocks.{Bit, off, on, input, output, bitCode}
 use Rattle.grammar.specs.Grammar.{letterB, letterI, digit, Decimal, no-digits, one-more, Name, name-0, name-1, name-I, name-B}
-use Rattle.grammar.specs.Machine.{State, want, digits, dead, tens, mayBe, isDigit, toCome, inNumber, step, run, stop, from, Spans}
+use Rattle.grammar.specs.Machine.{State, want, digits, dead, tens, mayBe, isDigit, toCome, inNumber, step, stop, from, Spans}
+use Rattle.grammar.proofs.Machines.{run}
 use Rattle.grammar.proofs.Complete.{may-be}
 use Rattle.grammar.proofs.From.{nothing, byte, after, there, goes, halts}
 use Rattle.spelling.specs.declared.Digits.{Digits}
