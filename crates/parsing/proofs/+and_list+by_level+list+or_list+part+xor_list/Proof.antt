@@ -1,5 +1,5 @@
 -- or-list, xor-list, and-list and part meet their contracts: the bytes left fall with each call, and each way through them is a law of Lists or Parts.
-use Prim.Native.Nat.{_+_, _*_, _-_}
+use Prim.Native.Nat.{ℕ, _+_, _*_, _-_, max, _<_, _≤_}
 use mathlib.Core.Path.{_≡_, sym, _∙_}
 use native.Mathlib.Omega.{arith}
 use borrow.Author.Needs.{needs}
@@ -8,13 +8,13 @@ use Rattle.terms.proofs.Table.{last}
 use Rattle.grammar.specs.Grammar as g
 use Rattle.grammar.proofs.From.{there}
 use Rattle.spelling.specs.Spelling.{levelOf}
-use Rattle.spelling.proofs.Names.{name-good}
-use Rattle.spelling.proofs.Signs.{sign-of}
+use Rattle.spelling.proofs.Names.{Called, name-good}
+use Rattle.spelling.proofs.Signs.{Signed, sign-of}
 use Rattle.spelling.proofs.Spaces.{skipped, skipped-within}
+use Rattle.parsing.specs.Parsing.{Ready}
 use Rattle.parsing.proofs.Lists.{made, took, stopped, no-sign-of, Going, begins, ends, breaks, later, reaches, sums, goes-on}
 use Rattle.parsing.proofs.Parts.{Nots, no-nots, nots-fit, inside, one-not, too-many, inner-ready, inner-fits, into, unclosed, closed, called}
 use Rattle.parsing.proofs.Parts.{called-small, name-fits, uncalled}
-use Prim.Native.Nat.{ℕ, _<_}
 use borrow.Fn.Kinds.{In}
 use borrow.Fn.PlainCycle.{Measures, is, falls, and}
 use Rattle.parsing.proofs.and_list.Reads as and-list
@@ -119,6 +119,107 @@ part-Inv-loop text at around nodes₀ first p₀ nots₀ b₀ nodes p nots b = N
 abbrev part-μ-loop : part-lts.MeasureT-loop
 part-μ-loop text at around nodes₀ first p₀ nots₀ b₀ nodes p nots b = length text - p
 
+-- what a list knows of what it calls; and a part
+abbrev list-claims : ℕ → list-lts.Claims
+list-claims t = (
+  by-level-below t,
+  by-level.Post,
+  read-sign-reads.Asked,
+  read-sign-reads.Learnt,
+  insert-reads.Asked,
+  insert-reads.Learnt,
+  over-reads.Asked,
+  over-reads.Learnt,
+)
+
+abbrev part-claims : ℕ → part-lts.Claims
+part-claims t = (
+  skip-spaces-reads.Asked,
+  skip-spaces-reads.Learnt,
+  byte-at-reads.Asked,
+  byte-at-reads.Learnt,
+  put-reads.Asked,
+  put-reads.Learnt,
+  or-list-below t,
+  or-list.Post,
+  read-name-reads.Asked,
+  read-name-reads.Learnt,
+)
+
+-- where a list has read an operator, that is one of it, and there is room for its node and for what is behind it
+abbrev Sign-read : ℕ → Type 0
+Sign-read t = list-lts.After-g2 (list-claims t) (list-at t) list.Post list-Inv-loop list-μ-loop
+
+signed :
+    (t : ℕ) (c : Sign-read t) → let turn = c .before .before .before in
+    let args = turn .before .before .before .before .before .before .before .args in
+    Signed (args .text .now) (levelOf (args .level)) (turn .loop .p) (c .g2 .given .0 .0) (c .g2 .given .0 .1 .0)
+signed t c =
+    let read = c .before .before in
+    let args = read .before .before .before .before .before .before .before .before .args in
+    sign-of (args .text .now) (args .level) _ _ _ (sym (read .read-sign .ensures) ∙ c .g2 .given .1)
+
+room :
+    (t : ℕ) (c : Sign-read t) → let turn = c .before .before .before in
+    let args = turn .before .before .before .before .before .before .before .args in
+    let next = c .g2 .given .0 .1 .0 in
+    (args .at + turn .loop .n < next) × Ready (args .text .now) next (args .first + turn .loop .n + 1)
+room t c =
+    let turn = c .before .before .before in
+    let start = turn .before .before .before .before .before .before .before in
+    later (start .args .text .now) (made (start .args .level) (start .pre .1 .1)) (turn .loop .inv) (signed t c) (start .pre .1 .0)
+
+-- where it has read the item behind it too, that is one more
+abbrev Item-read : ℕ → Type 0
+Item-read t = list-lts.After-item2 (list-claims t) (list-at t) list.Post list-Inv-loop list-μ-loop
+
+one-item :
+    (t : ℕ) (c : Item-read t) → let call = c .before .before in
+    let sign = call .before .before .before .before .before in
+    let turn = sign .before .before .before in
+    let args = turn .before .before .before .before .before .before .before .args in
+    let item = c .item2 .given .0 in
+    let size = length (args .text .now) in
+    (turn .loop .n + (item .1 .0 + 1) ≤ size) × ((max (turn .loop .d) (item .1 .1 .0) < size) × (turn .loop .p < item .0))
+one-item t c =
+    let call = c .before .before in
+    let sign = call .before .before .before .before .before in
+    let turn = sign .before .before .before in
+    let start = turn .before .before .before .before .before .before .before in
+    let s = start .args .text .now in
+    let m = made (start .args .level) (start .pre .1 .1) in
+    let i = took s (c .item2 .given .1) (call .by-level2 .ensures) in
+    sums s m (turn .loop .inv) (signed t sign) (start .pre .1 .0) i
+
+-- where a part has read a name, that is one
+abbrev Name-read : ℕ → Type 0
+Name-read t = part-lts.After-n2 (part-claims t) (part-at t) part.Post part-Inv-loop part-μ-loop
+
+its-name :
+    (t : ℕ) (c : Name-read t) → let turn = c .before .before .before .before .before in
+    let args = turn .before .before .before .before .args in
+    Called (args .text .now) (turn .loop .p) (c .n2 .given .0 .0) (c .n2 .given .0 .1 .0)
+its-name t c =
+    let call = c .before .before in
+    let args = call .before .before .before .before .before .before .before .args in
+    name-good (args .text .now) _ _ _ (sym (call .read-name .ensures) ∙ c .n2 .given .1)
+
+-- where it has read an or-list in parentheses, its sizes fit with those of the `!` before it
+abbrev Inner-read : ℕ → Type 0
+Inner-read t = part-lts.After-inner2 (part-claims t) (part-at t) part.Post part-Inv-loop part-μ-loop
+
+its-sizes :
+    (t : ℕ) (c : Inner-read t) → let turn = c .before .before .before .before .before .before .before in
+    let args = turn .before .before .before .before .args in
+    let inner = c .inner2 .given .0 in
+    let size = length (args .text .now) in
+    (turn .loop .nots + inner .1 .0 ≤ size) × (turn .loop .nots + inner .1 .1 .0 ≤ size)
+its-sizes t c =
+    let call = c .before .before in
+    let turn = call .before .before .before .before .before in
+    let s = turn .before .before .before .before .args .text .now in
+    inner-fits s (turn .loop .inv) (took s (c .inner2 .given .1) (call .or-list .ensures))
+
 pub +and-list+by-level+list+or-list+part+xor-list-spec : {M : Type 1} → statement M
 +and-list+by-level+list+or-list+part+xor-list-spec =
     close μ-and-list μ-by-level μ-list μ-or-list μ-part μ-xor-list (λ t. and-list-lts.spec (
@@ -179,16 +280,8 @@ pub +and-list+by-level+list+or-list+part+xor-list-spec : {M : Type 1} → statem
     let key = c .before .before in
     let start = key .before .before in
     rw (last 3 (key .match .rest) (omega (arith, start .pre .1 .1))) (c .part .ensures)))
-    (λ t. list-lts.spec (
-      by-level-below t,
-      by-level.Post,
-      read-sign-reads.Asked,
-      read-sign-reads.Learnt,
-      insert-reads.Asked,
-      insert-reads.Learnt,
-      over-reads.Asked,
-      over-reads.Learnt,
-    )
+    (λ t. list-lts.spec
+    (list-claims t)
     (list-at t)
     list.Post
     list-Inv-loop
@@ -232,116 +325,50 @@ pub +and-list+by-level+list+or-list+part+xor-list-spec : {M : Type 1} → statem
     (λ c. search needs)
     (λ c κs. search needs)
     (λ c.
-    let sign = c .before .before .before .before in
-    let read = sign .before .before in
-    let turn = read .before in
-    let start = turn .before .before .before .before .before .before .before in
-    let s = start .args .text .now in
-    let m = made (start .args .level) (start .pre .1 .1) in
-    let x = sign-of s (start .args .level) _ _ _ (sym (read .read-sign .ensures) ∙ sign .g2 .given .1) in
-    let o = later s m (turn .loop .inv) x (start .pre .1 .0) in
+    let o = room t (c .before .before .before .before) in
     omega (arith, o .1 .behind, o .1 .within))
     (λ c.
-    let sign = c .before .before .before .before in
-    let read = sign .before .before in
-    let turn = read .before in
-    let start = turn .before .before .before .before .before .before .before in
-    let s = start .args .text .now in
-    let m = made (start .args .level) (start .pre .1 .1) in
-    let x = sign-of s (start .args .level) _ _ _ (sym (read .read-sign .ensures) ∙ sign .g2 .given .1) in
-    let o = later s m (turn .loop .inv) x (start .pre .1 .0) in
+    let o = room t (c .before .before .before .before) in
     omega (arith, o .1 .behind, o .1 .within))
     (λ c.
     let start = c .before .before .before .before .before .before .before .before .before .before .before .before .before .before in
     omega (arith, start .pre .1 .1))
     (λ c κs.
     let sign = c .before .before .before .before in
-    let read = sign .before .before in
-    let turn = read .before in
-    let start = turn .before .before .before .before .before .before .before in
-    let s = start .args .text .now in
-    let m = made (start .args .level) (start .pre .1 .1) in
-    let x = sign-of s (start .args .level) _ _ _ (sym (read .read-sign .ensures) ∙ sign .g2 .given .1) in
-    let o = later s m (turn .loop .inv) x (start .pre .1 .0) in
+    let start = sign .before .before .before .before .before .before .before .before .before .before in
+    let o = room t sign in
     (omega (arith, start .pre .1 .1, o .0, o .1 .within), (o .1, omega (arith, start .pre .1 .1))))
     (λ c. search needs)
     (λ c.
     let known = c .before in
     let call = known .before .before in
     let sign = call .before .before .before .before .before in
-    let read = sign .before .before in
-    let turn = read .before in
+    let turn = sign .before .before .before in
     let start = turn .before .before .before .before .before .before .before in
     let s = start .args .text .now in
     let m = made (start .args .level) (start .pre .1 .1) in
-    let x = sign-of s (start .args .level) _ _ _ (sym (read .read-sign .ensures) ∙ sign .g2 .given .1) in
-    reaches s m (turn .loop .inv) x ∙ stopped s _ (levelOf (start .args .level + 1)) _ _ _ _ (known .item .given .1) (call .by-level2 .ensures))
+    reaches s m (turn .loop .inv) (signed t sign) ∙ stopped s _ (levelOf (start .args .level + 1)) _ _ _ _ (known .item .given .1) (call .by-level2 .ensures))
     (λ c. search needs)
-    (λ c.
-    let known = c .before in
-    let call = known .before .before in
-    let sign = call .before .before .before .before .before in
-    let read = sign .before .before in
-    let turn = read .before in
-    let start = turn .before .before .before .before .before .before .before in
-    let s = start .args .text .now in
-    let m = made (start .args .level) (start .pre .1 .1) in
-    let x = sign-of s (start .args .level) _ _ _ (sym (read .read-sign .ensures) ∙ sign .g2 .given .1) in
-    let i = took s (known .item2 .given .1) (call .by-level2 .ensures) in
-    let z = sums s m (turn .loop .inv) x (start .pre .1 .0) i in
-    omega (arith, z .0))
-    (λ c.
-    let known = c .before in
-    let call = known .before .before in
-    let sign = call .before .before .before .before .before in
-    let read = sign .before .before in
-    let turn = read .before in
-    let start = turn .before .before .before .before .before .before .before in
-    let s = start .args .text .now in
-    let m = made (start .args .level) (start .pre .1 .1) in
-    let x = sign-of s (start .args .level) _ _ _ (sym (read .read-sign .ensures) ∙ sign .g2 .given .1) in
-    let i = took s (known .item2 .given .1) (call .by-level2 .ensures) in
-    let z = sums s m (turn .loop .inv) x (start .pre .1 .0) i in
-    omega (arith, z .0))
-    (λ c κs.
-    let known = c .before in
-    let call = known .before .before in
-    let sign = call .before .before .before .before .before in
-    let read = sign .before .before in
-    let turn = read .before in
-    let start = turn .before .before .before .before .before .before .before in
-    let s = start .args .text .now in
-    let m = made (start .args .level) (start .pre .1 .1) in
-    let x = sign-of s (start .args .level) _ _ _ (sym (read .read-sign .ensures) ∙ sign .g2 .given .1) in
-    let i = took s (known .item2 .given .1) (call .by-level2 .ensures) in
-    let z = sums s m (turn .loop .inv) x (start .pre .1 .0) i in
-    omega (arith, z .1 .0))
+    (λ c. omega (arith, one-item t (c .before) .0))
+    (λ c. omega (arith, one-item t (c .before) .0))
+    (λ c κs. omega (arith, one-item t (c .before) .1 .0))
     (λ c.
     let known = c .before .before in
     let call = known .before .before in
-    let sign = call .before .before .before .before .before in
-    let read = sign .before .before in
-    let turn = read .before in
-    let start = turn .before .before .before .before .before .before .before in
-    let s = start .args .text .now in
-    let m = made (start .args .level) (start .pre .1 .1) in
-    let x = sign-of s (start .args .level) _ _ _ (sym (read .read-sign .ensures) ∙ sign .g2 .given .1) in
-    let i = took s (known .item2 .given .1) (call .by-level2 .ensures) in
-    let z = sums s m (turn .loop .inv) x (start .pre .1 .0) i in
-    omega (arith, z .1 .1, i .within))
+    let start = call .before .before .before .before .before .before .before .before .before .before .before .before .before .before .before in
+    let i = took (start .args .text .now) (known .item2 .given .1) (call .by-level2 .ensures) in
+    omega (arith, one-item t known .1 .1, i .within))
     (λ c.
     let known = c .before .before in
     let call = known .before .before in
     let put = call .before .before in
     let sign = put .before .before .before in
-    let read = sign .before .before in
-    let turn = read .before in
+    let turn = sign .before .before .before in
     let start = turn .before .before .before .before .before .before .before in
     let s = start .args .text .now in
     let m = made (start .args .level) (start .pre .1 .1) in
-    let x = sign-of s (start .args .level) _ _ _ (sym (read .read-sign .ensures) ∙ sign .g2 .given .1) in
     let i = took s (known .item2 .given .1) (call .by-level2 .ensures) in
-    goes-on s m (turn .loop .inv) x (put .insert .ensures) i (c .over .ensures))
+    goes-on s m (turn .loop .inv) (signed t sign) (put .insert .ensures) i (c .over .ensures))
     (λ c.
     let known = c .before in
     let call = known .before .before in
@@ -356,18 +383,8 @@ pub +and-list+by-level+list+or-list+part+xor-list-spec : {M : Type 1} → statem
     let start = c .before .before in
     (omega arith, (start .pre .1, omega arith)))
     (λ c. search needs))
-    (λ t. part-lts.spec (
-      skip-spaces-reads.Asked,
-      skip-spaces-reads.Learnt,
-      byte-at-reads.Asked,
-      byte-at-reads.Learnt,
-      put-reads.Asked,
-      put-reads.Learnt,
-      or-list-below t,
-      or-list.Post,
-      read-name-reads.Asked,
-      read-name-reads.Learnt,
-    )
+    (λ t. part-lts.spec
+    (part-claims t)
     (part-at t)
     part.Post
     part-Inv-loop
@@ -464,22 +481,8 @@ pub +and-list+by-level+list+or-list+part+xor-list-spec : {M : Type 1} → statem
     let s = start .args .text .now in
     omega (arith, there s _ 41 (omega arith) (sym (close .byte-at3 .ensures) ∙ c .if3 .left)))
     (λ c κs. search needs)
-    (λ c.
-    let known = c .before .before .before .before in
-    let call = known .before .before in
-    let turn = call .before .before .before .before .before in
-    let start = turn .before .before .before .before in
-    let s = start .args .text .now in
-    let x = took s (known .inner2 .given .1) (call .or-list .ensures) in
-    omega (arith, inner-fits s (turn .loop .inv) x))
-    (λ c.
-    let known = c .before .before .before .before in
-    let call = known .before .before in
-    let turn = call .before .before .before .before .before in
-    let start = turn .before .before .before .before in
-    let s = start .args .text .now in
-    let x = took s (known .inner2 .given .1) (call .or-list .ensures) in
-    omega (arith, inner-fits s (turn .loop .inv) x))
+    (λ c. omega (arith, its-sizes t (c .before .before .before .before)))
+    (λ c. omega (arith, its-sizes t (c .before .before .before .before)))
     (λ c.
     let known = c .before in
     let call = known .before .before in
@@ -509,38 +512,18 @@ pub +and-list+by-level+list+or-list+part+xor-list-spec : {M : Type 1} → statem
     let start = turn .before .before .before .before in
     let s = start .args .text .now in
     omega (arith, nots-fit s (turn .loop .inv) (start .pre .1)))
-    (λ c.
-    let known = c .before .before in
-    let call = known .before .before in
-    let start = call .before .before .before .before .before .before .before in
-    let s = start .args .text .now in
-    let x = name-good s _ _ _ (sym (call .read-name .ensures) ∙ known .n2 .given .1) in
-    omega (arith, called-small s x))
-    (λ c.
-    let known = c .before .before in
-    let call = known .before .before in
-    let start = call .before .before .before .before .before .before .before in
-    let s = start .args .text .now in
-    let x = name-good s _ _ _ (sym (call .read-name .ensures) ∙ known .n2 .given .1) in
-    omega (arith, called-small s x))
+    (λ c. omega (arith, called-small _ (its-name t (c .before .before))))
+    (λ c. omega (arith, called-small _ (its-name t (c .before .before))))
     (λ c κs. search needs)
     (λ c κs. search needs)
     (λ c.
     let known = c .before .before .before .before in
-    let call = known .before .before in
-    let turn = call .before .before .before in
-    let start = turn .before .before .before .before in
-    let s = start .args .text .now in
-    let x = name-good s _ _ _ (sym (call .read-name .ensures) ∙ known .n2 .given .1) in
-    omega (arith, name-fits s (turn .loop .inv) x))
+    let turn = known .before .before .before .before .before in
+    omega (arith, name-fits _ (turn .loop .inv) (its-name t known)))
     (λ c.
     let known = c .before .before .before .before in
-    let call = known .before .before in
-    let turn = call .before .before .before in
-    let start = turn .before .before .before .before in
-    let s = start .args .text .now in
-    let x = name-good s _ _ _ (sym (call .read-name .ensures) ∙ known .n2 .given .1) in
-    omega (arith, name-fits s (turn .loop .inv) x))
+    let turn = known .before .before .before .before .before in
+    omega (arith, name-fits _ (turn .loop .inv) (its-name t known)))
     (λ c.
     let known = c .before in
     let call = known .before .before in
@@ -553,12 +536,9 @@ pub +and-list+by-level+list+or-list+part+xor-list-spec : {M : Type 1} → statem
     (λ c.
     let put = c .before in
     let known = put .before .before .before in
-    let call = known .before .before in
-    let turn = call .before .before .before in
-    let start = turn .before .before .before .before in
-    let s = start .args .text .now in
-    let x = name-good s _ _ _ (sym (call .read-name .ensures) ∙ known .n2 .given .1) in
-    called s (turn .loop .inv) x (put .put2 .ensures) (skipped s _ (c .skip-spaces4 .ensures))))
+    let turn = known .before .before .before .before .before in
+    let s = turn .before .before .before .before .args .text .now in
+    called s (turn .loop .inv) (its-name t known) (put .put2 .ensures) (skipped s _ (c .skip-spaces4 .ensures))))
     λ t. xor-list-lts.spec
     (list-below t, list.Post)
     (xor-list-at t)
