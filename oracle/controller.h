@@ -1,4 +1,4 @@
-/* The controller of document 01, read a second time.
+/* The controller of document 01 with request L2, read a second time.
  *
  * Four calls: accept, fresh, scan, take.  They keep no memory of their own
  * and answer for any content: any bytes of any length, any state, any inputs.
@@ -16,15 +16,16 @@ enum {
     ORACLE_ANALOGS = 8
 };
 
-/* The numbers of refusal; 0 is none. */
+/* The numbers of refusal; 0 is none, and 7 is in formula.h. */
 enum {
     ORACLE_GOOD = 0,
-    ORACLE_MALFORMED = 1, /* a number cut short, not shortest, over three groups */
+    ORACLE_MALFORMED = 1, /* a number not shortest, or over three groups */
     ORACLE_OUTSIDE = 2,   /* a count, kind, field, code or expression; extra bytes */
     ORACLE_ABSENT = 3,    /* no such block, or a kind without a word */
     ORACLE_MEMORY = 4,    /* memory over 5,000 */
     ORACLE_BAD_STATE = 5,
-    ORACLE_OVERRUN = 6    /* the time, or missed, would run over */
+    ORACLE_OVERRUN = 6,   /* the time, or missed, would run over */
+    ORACLE_CUT = 8        /* a number cut by the end of the data */
 };
 
 /* What a block keeps from scan to scan. */
@@ -75,13 +76,14 @@ typedef struct {
     oracle_entry entry; /* zero if none was found */
 } oracle_taken;
 
-/* Reads a whole program: refusals 1 to 4, or memory and step figure. */
+/* Reads a whole program: refusals 1 to 4 and 8, or memory and step figure. */
 oracle_acceptance oracle_accept(const uint8_t *program, size_t length);
 
 /* Makes the state all zero and off. */
 void oracle_fresh(oracle_state *state);
 
-/* Runs one scan: refusals 1 to 6.  A refused scan leaves the state as it was. */
+/* Runs one scan: refusals 1 to 6 and 8.  A refused scan leaves the state as it
+ * was. */
 oracle_answer oracle_scan(const uint8_t *program, size_t length,
                           oracle_state *state, uint16_t elapsed, uint32_t bits,
                           const int16_t words[ORACLE_ANALOGS]);

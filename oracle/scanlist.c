@@ -12,9 +12,10 @@ enum {
     SCAN_NUMBERS = 3 + ORACLE_ANALOGS
 };
 
-typedef enum { READ, ENDED, MALFORMED } reading;
+/* How reading went: ENDED if the input stops before the first byte, CUT if it
+ * stops later, MALFORMED if a number is badly formed or out of range. */
+typedef enum { READ, ENDED, CUT, MALFORMED } reading;
 
-/* Reads a number; ENDED if the input stops before its first byte. */
 static reading read_number(uint32_t *value)
 {
     unsigned shift;
@@ -24,7 +25,7 @@ static reading read_number(uint32_t *value)
         int byte = getchar();
 
         if (byte == EOF)
-            return shift == 0 ? ENDED : MALFORMED;
+            return shift == 0 ? ENDED : CUT;
         *value |= (uint32_t)(byte & 0x7F) << shift;
         if (byte < 0x80)
             return byte == 0 && shift > 0 ? MALFORMED : READ;
@@ -32,15 +33,19 @@ static reading read_number(uint32_t *value)
     return MALFORMED;
 }
 
-/* Reads the length and the program; false if that is a bad program. */
-static bool read_program(uint8_t *program, uint32_t *length)
+/* Reads the length and the program. */
+static reading read_program(uint8_t *program, uint32_t *length)
 {
-    if (read_number(length) != READ || *length > MOST_LENGTH)
-        return false;
-    return fread(program, 1, *length, stdin) == *length;
+    reading one = read_number(length);
+
+    if (one != READ)
+        return one;
+    if (*length > MOST_LENGTH)
+        return MALFORMED;
+    return fread(program, 1, *length, stdin) == *length ? READ : CUT;
 }
 
-/* Reads the numbers of one scan; ENDED if the input stops before the first. */
+/* Reads the numbers of one scan. */
 static reading read_scan(uint32_t numbers[SCAN_NUMBERS])
 {
     unsigned i;
@@ -48,9 +53,11 @@ static reading read_scan(uint32_t numbers[SCAN_NUMBERS])
     for (i = 0; i < SCAN_NUMBERS; i++) {
         reading one = read_number(&numbers[i]);
 
-        if (one == ENDED && i == 0)
-            return ENDED;
-        if (one != READ || numbers[i] > MOST_INPUT)
+        if (one == ENDED)
+            return i == 0 ? ENDED : CUT;
+        if (one != READ)
+            return one;
+        if (numbers[i] > MOST_INPUT)
             return MALFORMED;
     }
     return READ;
@@ -86,7 +93,7 @@ static void list_scans(const uint8_t *program, uint32_t length)
         printf("%" PRIu64 " %" PRIu32 " %" PRIu64 " %" PRIu64 "\n", state.time,
                answer.steps, state.journal.held, state.journal.missed);
     }
-    if (one == MALFORMED)
+    if (one != ENDED) /* cut or malformed: the paper has one line for both */
         puts("bad scan");
 }
 
@@ -96,7 +103,7 @@ int main(void)
     oracle_acceptance acceptance;
     uint32_t length;
 
-    if (!read_program(program, &length)) {
+    if (read_program(program, &length) != READ) {
         puts("bad program");
         return 0;
     }

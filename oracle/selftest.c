@@ -1,5 +1,7 @@
-/* Runs the examples of document 01 on the controller, then odd content. */
+/* Runs the examples of document 01 on the controller, then numbers that are cut
+ * and badly formed, as request L2 tells them apart, then odd content. */
 #include <stdio.h>
+#include <stdlib.h>
 #include <string.h>
 
 #include "controller.h"
@@ -66,20 +68,72 @@ static void put_large(program *p)
     PUT(p, 8, 2, 3, 4, 5, 32768);
 }
 
+/* A state that an accepted scan would change. */
+static void put_state(oracle_state *state)
+{
+    oracle_fresh(state);
+    state->places[0].pins = 3;
+    state->places[0].output = true;
+    state->places[0].ticks = 77;
+    state->places[0].word = -9;
+    state->time = 12345;
+    state->alarms = 0xDEADBEEF;
+    state->journal.entries[0].number = 31;
+    state->journal.entries[0].time = 100;
+    state->journal.held = 1;
+    state->journal.missed = 5;
+}
+
+/* A scan from this state is refused so, with zeros, and hands the state back. */
+static bool scan_refused(const uint8_t *bytes, size_t length, oracle_state *state,
+                         unsigned refusal, size_t place)
+{
+    oracle_state before = *state;
+    oracle_answer s = oracle_scan(bytes, length, state, 1, 1, NO_WORDS);
+
+    return s.refusal == refusal && s.place == place && s.alarms == 0
+        && s.steps == 0 && s.rises == 0
+        && memcmp(state, &before, sizeof before) == 0;
+}
+
+/* Acceptance and a scan both refuse this program so. */
 static bool refused(const uint8_t *bytes, size_t length, unsigned refusal, size_t place)
 {
-    oracle_acceptance a = oracle_accept(bytes, length);
-    oracle_state state, before;
-    oracle_answer s;
+    /* A copy of just this length: checks of the compiler see a read past it. */
+    uint8_t *exact = malloc(length > 0 ? length : 1);
+    oracle_acceptance a;
+    oracle_state state;
+    bool good;
 
+    if (exact == NULL)
+        return false;
+    if (length > 0)
+        memcpy(exact, bytes, length);
+    a = oracle_accept(exact, length);
+    good = a.refusal == refusal && a.place == place && a.memory == 0 && a.steps == 0;
     oracle_fresh(&state);
-    before = state;
-    s = oracle_scan(bytes, length, &state, 1, 0, NO_WORDS);
-    return a.refusal == refusal && a.place == place && a.memory == 0
-        && a.steps == 0 && s.refusal == refusal && s.place == place
-        && s.alarms == 0 && s.steps == 0 && s.rises == 0
-        && memcmp(&state, &before, sizeof state) == 0;
+    good = scan_refused(exact, length, &state, refusal, place) && good;
+    put_state(&state);
+    good = scan_refused(exact, length, &state, refusal, place) && good;
+    free(exact);
+    return good;
 }
+
+/* So is the program with these bytes put after it; it is left as it was. */
+static bool refused_with(const program *p, const char *tail, size_t count,
+                         unsigned refusal, size_t place)
+{
+    static program longer;
+
+    longer.length = p->length + count;
+    memcpy(longer.bytes, p->bytes, p->length);
+    memcpy(longer.bytes + p->length, tail, count);
+    return refused(longer.bytes, longer.length, refusal, place);
+}
+
+/* The bytes after the program are those of a string. */
+#define WITH(p, tail, refusal, place) \
+    refused_with((p), (tail), sizeof(tail) - 1, (refusal), (place))
 
 static void test_acceptance(void)
 {
@@ -91,12 +145,12 @@ static void test_acceptance(void)
     oracle_acceptance a = oracle_accept(p1, 7);
 
     CHECK("P1", a.refusal == 0 && a.place == 0 && a.memory == 16 && a.steps == 1);
-    CHECK("P2", refused(NULL, 0, 1, 0));
+    CHECK("P2", refused(NULL, 0, 8, 0));
     CHECK("P3", refused(p3, 1, 2, 0));
     CHECK("P4", refused(p4, 2, 1, 0));
     CHECK("P5", refused(p1, 8, 2, 7));
     CHECK("P6", refused(p6, 7, 3, 6));
-    CHECK("P7", refused(p1, 6, 1, 6));
+    CHECK("P7", refused(p1, 6, 8, 6));
     CHECK("C9 01", refused(many, 2, 2, 0));
 }
 
@@ -116,6 +170,169 @@ static void test_memory(void)
     put_large(&p);
     PUT(&p, 0, 1, 1, 7, 7, 7, 0);
     CHECK("memory 5001", refused(p.bytes, p.length, 4, 0));
+}
+
+/* A good program: each kind once, numbers of one, two and three bytes. */
+static const uint32_t EVERY_KIND[] = {
+    13,
+    0, 2, 6 + 36, 4, 0, 6 + 1, 5, 6 + 33, 6 + 46,
+    1, 34, 0, 1,
+    2, 46, 1,
+    3, 2, 37,
+    4, 38, 0, 2, 127, 128,
+    5, 33, 34, 1, 16383,
+    6, 1, 0, 0, 16384,
+    7, 2, 0, 32767,
+    8, 2, 33, 45, 0, 300,
+    9, 1, 5, 8 + 7, 1000,
+    10, 35, 0, 65535, 128, 8 + 8,
+    11, 44, 1, 66535, 7, 16384,
+    12, 43, 8 + 10, 3, 33768,
+    5, 34, 46, 0, 33, 1
+};
+
+/* Each prefix of a good program ends within a number, or before one: 8 at that
+ * number.  The same number made badly formed, by as few bytes as that takes, is
+ * 1 at the same place, though the data end there too. */
+static void test_prefixes(void)
+{
+    static program p, prefix;
+    size_t count = sizeof EVERY_KIND / sizeof EVERY_KIND[0];
+    bool widths[4] = {false};
+    oracle_acceptance a;
+    size_t i;
+
+    p.length = 0;
+    for (i = 0; i < count; i++) {
+        size_t start = p.length;
+        size_t groups;
+
+        put(&p, EVERY_KIND[i]);
+        widths[p.length - start] = true;
+        for (groups = 0; start + groups < p.length; groups++) {
+            prefix = p;
+            prefix.length = start + groups;
+            CHECK("cut", refused(prefix.bytes, prefix.length, 8, start));
+            if (groups == 0) {
+                CHECK("cut in group 2", WITH(&prefix, "\x80", 8, start));
+                CHECK("cut in group 3", WITH(&prefix, "\xFF\x80", 8, start));
+                CHECK("not shortest", WITH(&prefix, "\x81\0", 1, start));
+                CHECK("not shortest", WITH(&prefix, "\x80\x81\0", 1, start));
+                CHECK("over", WITH(&prefix, "\x80\x80\x80", 1, start));
+                CHECK("over", WITH(&prefix, "\xFF\xFF\xFF", 1, start));
+            } else if (groups == 1) {
+                CHECK("cut in group 3", WITH(&prefix, "\x80", 8, start));
+                CHECK("not shortest", WITH(&prefix, "\0", 1, start));
+                CHECK("not shortest", WITH(&prefix, "\x80\0", 1, start));
+                CHECK("over", WITH(&prefix, "\x80\x80", 1, start));
+                CHECK("over", WITH(&prefix, "\xFF\xFF", 1, start));
+            } else {
+                CHECK("not shortest", WITH(&prefix, "\0", 1, start));
+                CHECK("over", WITH(&prefix, "\x80", 1, start));
+                CHECK("over", WITH(&prefix, "\xFF", 1, start));
+            }
+        }
+    }
+    CHECK("widths", widths[1] && widths[2] && widths[3]);
+    a = oracle_accept(p.bytes, p.length);
+    CHECK("every kind", a.refusal == 0 && a.memory == 226 && a.steps == 20);
+}
+
+/* One number alone, and 8 among the other refusals. */
+static void test_cut(void)
+{
+    static program p;
+    oracle_state state;
+    unsigned i;
+
+    p.length = 0;
+    CHECK("alone", WITH(&p, "\x80", 8, 0));
+    CHECK("alone", WITH(&p, "\x81", 8, 0));
+    CHECK("alone", WITH(&p, "\xC8", 8, 0));
+    CHECK("alone", WITH(&p, "\x80\x80", 8, 0));
+    CHECK("alone", WITH(&p, "\xFF\xFF", 8, 0));
+    CHECK("alone", WITH(&p, "\x80\0", 1, 0));
+    CHECK("alone", WITH(&p, "\x81\0", 1, 0));
+    CHECK("alone", WITH(&p, "\x81\x80\0", 1, 0));
+    CHECK("alone", WITH(&p, "\x80\x80\x80", 1, 0));
+    CHECK("alone", WITH(&p, "\xFF\xFF\xFF", 1, 0));
+
+    /* Before 2 at the same number, whatever it would have become. */
+    PUT(&p, 1, 0);
+    for (i = 0; i < 16; i++)
+        put(&p, 0);
+    CHECK("depth 17", WITH(&p, "", 8, 18));
+    CHECK("depth 17", WITH(&p, "\x80", 8, 18));
+    CHECK("depth 17", WITH(&p, "\xFF\xFF", 8, 18));
+    CHECK("depth 17", WITH(&p, "\x80\0", 1, 18));
+    CHECK("depth 17", WITH(&p, "\x80\x80\x80", 1, 18));
+    CHECK("depth 17", WITH(&p, "\x06", 2, 18));
+    p.length = 0;
+    PUT(&p, 1, 0);
+    put_tree(&p, 6);
+    p.bytes[p.length - 1] = 0; /* the last of 63 nodes is a NOT: one more */
+    CHECK("node 64", WITH(&p, "", 8, 65));
+    CHECK("node 64", WITH(&p, "\x80", 8, 65));
+    CHECK("node 64", WITH(&p, "\xFF\xFF", 8, 65));
+    CHECK("node 64", WITH(&p, "\x80\0", 1, 65));
+    CHECK("node 64", WITH(&p, "\x80\x80\x80", 1, 65));
+    CHECK("node 64", WITH(&p, "\x06", 2, 65));
+    p.length = 0;
+    PUT(&p, 1, 10, 1, 0);
+    CHECK("divisor", WITH(&p, "\x80\x80", 8, 4));
+    CHECK("divisor", WITH(&p, "\x80\x80\x02", 2, 4));
+    p.length = 0;
+    PUT(&p, 1, 6, 1, 0, 0);
+    CHECK("off", WITH(&p, "", 8, 5));
+    CHECK("off", WITH(&p, "\x80", 8, 5));
+    CHECK("off", WITH(&p, "\0", 2, 5));
+
+    /* After a 2 or a 1 that stands before it. */
+    p.length = 0;
+    PUT(&p, 1, 2, 234);
+    CHECK("2 then 8", WITH(&p, "", 2, 2));
+    CHECK("2 then 8", WITH(&p, "\x80", 2, 2));
+    p.length = 0;
+    PUT(&p, 1, 2);
+    CHECK("1 then 8", WITH(&p, "\x80\0", 1, 2));
+    CHECK("1 then 8", WITH(&p, "\x80\0\x80", 1, 2));
+    p.length = 0;
+    PUT(&p, 1, 7, 2, 0, 2, 1, 34);
+    CHECK("extra", WITH(&p, "\x80", 2, 7));
+
+    /* Before 3 and 4, wherever it stands: these wait for the whole program. */
+    p.length = 0;
+    PUT(&p, 2, 2, 39);
+    CHECK("3 then 8", WITH(&p, "", 8, 3));
+    CHECK("3 then 8", WITH(&p, "\x80", 8, 3));
+    CHECK("3 then 8", WITH(&p, "\0\x02\x80\x80", 8, 5));
+    CHECK("3 then 8", WITH(&p, "\0\x02\0\0", 8, 7));
+    CHECK("3 then 8", WITH(&p, "\0\x02\0\0\x01", 8, 8));
+    CHECK("3 then 1", WITH(&p, "\0\x02\0\0\x01\x80\0", 1, 8));
+    CHECK("3", WITH(&p, "\0\x02\0\0\x01\0", 3, 2));
+    p.length = 0;
+    PUT(&p, 1, 12, 1, 8);
+    CHECK("no word then 8", WITH(&p, "\0", 8, 5));
+    CHECK("no word then 8", WITH(&p, "\0\0", 8, 6));
+    CHECK("no word", WITH(&p, "\0\0\0", 3, 3));
+    p.length = 0;
+    put_large(&p);
+    PUT(&p, 0, 1, 1, 7, 7, 7);
+    CHECK("4 then 8", WITH(&p, "", 8, p.length));
+    CHECK("4 then 8", WITH(&p, "\x80", 8, p.length));
+    CHECK("4 then 1", WITH(&p, "\x80\0", 1, p.length));
+    CHECK("4", WITH(&p, "\0", 4, 0));
+
+    /* Before 5 and 6. */
+    p.length = 0;
+    PUT(&p, 1, 7, 2, 0, 2, 1);
+    put_state(&state);
+    state.places[199].pins = 16;
+    CHECK("8 before 5", scan_refused(p.bytes, p.length, &state, 8, 6));
+    put_state(&state);
+    state.time = UINT64_MAX;
+    state.journal.missed = UINT64_MAX;
+    CHECK("8 before 6", scan_refused(p.bytes, p.length, &state, 8, 6));
 }
 
 static void test_kinds(void)
@@ -318,6 +535,8 @@ int main(void)
 {
     test_acceptance();
     test_memory();
+    test_prefixes();
+    test_cut();
     test_kinds();
     test_journal();
     test_states();

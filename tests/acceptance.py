@@ -1,6 +1,6 @@
-"""Acceptance as document 01 says it, and programs to try it on. controller.py, beside it, writes the cases.
+"""Acceptance as document 01 and request L2 say it, and programs to try it on. controller.py, beside it, writes the cases.
 
-It is a reading of document 01 of its own, made from the paper and not from the Rattle code, and knows nothing of how
+It is a reading of these of its own, made from the papers and not from the Rattle code, and knows nothing of how
 that is written. A group of cases gives names with programs.
 """
 
@@ -29,7 +29,7 @@ class Reader:
         place, value = self.at, 0
         for group in range(3):
             if self.at == len(self.data):
-                raise Refused(1, place)  # cut short
+                raise Refused(8, place)  # cut by the end of the data
             byte = self.data[self.at]
             self.at += 1
             value += (byte & 127) << (7 * group)
@@ -210,9 +210,28 @@ def examples():
     yield "all-kinds", GOOD
 
 
+def cut_at(n):
+    """Where the number starts that is cut in the first n bytes of GOOD: those of its bytes have the high bit on."""
+    return cut_at(n - 1) if n > 0 and GOOD[n - 1] >= 128 else n
+
+
 def prefixes():
     for n in range(len(GOOD)):
+        assert accept(GOOD[:n]) == (8, cut_at(n), 0, 0)
         yield f"first-{n}", GOOD[:n]
+
+
+def overlong():
+    """The prefixes again, the cut number made badly formed: by its last byte it is over three groups, or not shortest."""
+    for n in range(len(GOOD)):
+        there = n - cut_at(n)
+        tails = [("over", b"\x80" * (3 - there)), ("over-full", b"\xFF" * (3 - there)),
+                 ("longer", b"\x81" * (2 - there) + b"\x00")]
+        if there < 2:
+            tails.append(("long", (b"" if there else b"\x80") + b"\x00"))
+        for name, tail in tails:
+            assert accept(GOOD[:n] + tail) == (1, cut_at(n), 0, 0)
+            yield f"first-{n}-{name}", GOOD[:n] + tail
 
 
 def replaced():
@@ -224,13 +243,21 @@ def replaced():
 def numbers():
     forms = [("long-0", "8000"), ("long-1", "8100"), ("long-127", "FF00"), ("longer-0", "808000"), ("longer-1", "818000"),
              ("longer-16383", "FFFF00"), ("over", "808080"), ("over-and-more", "80808001"), ("over-full", "FFFFFF"),
-             ("cut-1", "80"), ("cut-2", "8080"), ("cut-1-full", "FF"), ("cut-2-full", "FFFF"),
+             ("cut-0", ""), ("cut-1", "80"), ("cut-1-of-1", "81"), ("cut-2", "8080"), ("cut-1-full", "FF"),
+             ("cut-2-full", "FFFF"),
              ("two-groups", "8001"), ("two-groups-full", "FF7F"), ("three-groups", "808001"), ("largest", "FFFF7F")]
     heads = [("count", b""), ("kind", b"\x01"), ("pin", b"\x01\x07"), ("preset", b"\x01\x07\x02\x00"),
-             ("node", b"\x01\x00\x01"), ("alarms", b"\x01\x07\x02\x00\x02"), ("alarm", b"\x01\x07\x02\x00\x02\x01")]
+             ("node", b"\x01\x00\x01"), ("alarms", b"\x01\x07\x02\x00\x02"), ("alarm", b"\x01\x07\x02\x00\x02\x01"),
+             ("mode", b"\x01\x02\x02"), ("relation", b"\x01\x09\x01"), ("word", b"\x01\x09\x01\x00"),
+             ("unit", b"\x01\x05\x02\x00"), ("time", b"\x01\x05\x02\x00\x00"), ("off", b"\x01\x06\x02\x00\x00"),
+             ("setting", b"\x01\x08\x02\x03\x04\x05"), ("divisor", b"\x01\x0A\x01\x00")]
+    answers = {"cut": 8, "long": 1, "longer": 1, "over": 1}  # by the first word of a form's name
     for where, head in heads:
         for name, form in forms:
-            yield f"{where}-{name}", head + bytes.fromhex(form)
+            data = head + bytes.fromhex(form)
+            answer = answers.get(name.split("-")[0])
+            assert answer is None or accept(data) == (answer, len(head), 0, 0)
+            yield f"{where}-{name}", data
     for where, head in heads:
         yield f"{where}-long-1-then-rest", head + bytes.fromhex("8100") + b"\x00" * 8
 
@@ -257,6 +284,14 @@ def expressions():
     yield "depth-17-is-cut", program([block(0, expr(*[0] * 16))])[:-1]
     yield "depth-17-is-bad", b"\x01\x00" + b"\x00" * 16 + b"\x80\x00"
     yield "depth-17-is-240", bl([0] * 16 + [240])
+    # one node too deep or too many that is no number: cut, or badly formed
+    for name, head in (("depth-17", [0] * 16), ("nodes-64", chain(2, 63)[:-1] + [0])):
+        for form, tail in (("is-cut-in-1", "80"), ("is-cut-in-2", "8080"), ("is-cut-in-2-full", "FFFF"),
+                           ("is-over", "808080"), ("is-over-full", "FFFFFF"), ("is-long", "8100"), ("is-longer", "818000")):
+            data = b"\x01\x00" + expr(*head) + bytes.fromhex(tail)
+            assert accept(data) == (8 if "cut" in form else 1, 2 + len(head), 0, 0)
+            yield f"{name}-{form}", data
+    yield "nodes-64-is-cut", b"\x01\x00" + expr(*chain(2, 63)[:-1], 0)
     yield "second-part-missing", bl([1, 6])[:-1]
 
 
@@ -305,13 +340,35 @@ def references():
 
 def order():
     far = block(2, out(9), 0)
-    yield "3-then-1", program([far, block(2, 0, 0)])[:-1] + b"\x80"
+    yield "3-then-1", program([far, block(2, 0, 0)])[:-1] + b"\x80\x00"
+    yield "3-then-8", program([far, block(2, 0, 0)])[:-1] + b"\x80"
     yield "3-then-2", program([far, block(2, 0, 2)])
     yield "3-then-extra", program([far]) + b"\x00"
     yield "3-then-bad-kind", program([far, block(13)])
     yield "3-then-cut", program([far, block(2, 0, 0)], [0])[:-1]
-    yield "2-then-1", program([block(2, 0, 2)])[:-1] + b"\x80"
+    yield "2-then-1", program([block(2, 0, 2)])[:-1] + b"\x80\x00"
+    yield "2-then-8", program([block(2, 0, 2)])[:-1] + b"\x80"
     yield "1-then-2", b"\x01\x02\x80\x00\x02\x00"
+    yield "1-then-cut", b"\x01\x02\x80\x00\x00"
+    yield "1-then-8", b"\x01\x02\x80\x00\x00\x80"
+    # a 2 that is the last number there is, and one with a cut number after it
+    for name, tail in (("cut", b""), ("8", b"\x80")):
+        yield f"2-count-then-{name}", num(201) + tail
+        yield f"2-kind-then-{name}", num(1) + num(13) + tail
+        yield f"2-pin-then-{name}", num(1) + block(2, 234) + tail
+        yield f"2-word-then-{name}", num(1) + block(9, 1, 0, 999) + tail
+        yield f"2-divisor-then-{name}", num(1) + block(10, 1, 0, pm(0)) + tail
+        yield f"2-off-then-{name}", num(1) + block(6, 1, 0, 0, 0) + tail
+        yield f"2-node-then-{name}", num(1) + block(0, expr(1, 240)) + tail
+        yield f"2-alarms-then-{name}", num(1) + block(2, 0, 0) + num(33) + tail
+    # 3 waits for the whole program: references of all sorts are astray, and the data end anywhere after the first
+    stray = program([block(0, expr(1, 6 + out(9), 6 + out(3))), block(1, out(9), 0, 0), block(9, 1, 0, word(1), word(9))],
+                    [2, out(9)])
+    assert accept(stray) == (3, 3, 0, 0)
+    for n in range(4, len(stray)):
+        for name, tail, answer in (("cut", b"", 8), ("8", b"\x80", 8), ("1", b"\x80\x00", 1)):
+            assert accept(stray[:n] + tail) == (answer, n, 0, 0)
+            yield f"3-then-{name}-at-{n}", stray[:n] + tail
     yield "2-then-2", program([block(2, 234, 2)])
     yield "3-then-3", program([block(1, 0, out(5), 0), block(2, out(6), 0)], [out(7)])
     yield "3-word-then-bit", program([block(9, 1, 0, word(0), 0), block(2, out(6), 0)])
@@ -322,7 +379,10 @@ def order():
     yield "3-before-4", program(heavy, [233])
     yield "2-before-4", program(heavy, [234])
     yield "extra-before-4", program(heavy) + b"\x00"
+    yield "cut-before-4", program(heavy)[:-1]
+    yield "8-before-4", program(heavy)[:-1] + b"\x80"
+    yield "1-before-4", program(heavy)[:-1] + b"\x80\x00"
     yield "heaviest", program([block(0, expr(*chain(1, 63)))] * 200)
 
 
-GROUPS = [examples, prefixes, replaced, numbers, expressions, fields, references, order]
+GROUPS = [examples, prefixes, overlong, replaced, numbers, expressions, fields, references, order]
