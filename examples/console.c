@@ -4,7 +4,8 @@
  * each scan: elapsed ticks, input bits and up to eight analog words; those left
  * out are 0.  Numbers are decimal, or hexadecimal after 0x.  Prints for each
  * scan the time, the alarm word, the steps and the blocks whose output is on,
- * then the alarms that it takes out of the journal.
+ * then the alarms that it takes out of the journal.  Of a program that is
+ * refused it says whether to send it again or to throw it away.
  */
 #include <errno.h>
 #include <inttypes.h>
@@ -28,6 +29,16 @@ static bool load(const char *name, uint8_t *program, size_t *length)
     *length = fread(program, 1, MOST_PROGRAM, file);
     whole = fgetc(file) == EOF && !ferror(file);
     return fclose(file) == 0 && whole;
+}
+
+/* What to do with a program that is refused so; nothing if it is to be corrected. */
+static const char *advice(uint32_t refusal)
+{
+    switch (refusal) {
+    case LANWEZIK_CUT: return ": cut on its way, send again";
+    case LANWEZIK_MALFORMED: return ": badly formed, throw away";
+    default: return "";
+    }
 }
 
 /* Moves past blanks; true if nothing else is left. */
@@ -147,7 +158,8 @@ int main(int argc, char **argv)
     }
     acceptance = lanwezik_accept(program, length);
     if (acceptance.refusal != LANWEZIK_GOOD) {
-        printf("refused %" PRIu32 " at %" PRIu64 "\n", acceptance.refusal, acceptance.place);
+        printf("refused %" PRIu32 " at %" PRIu64 "%s\n", acceptance.refusal, acceptance.place,
+               advice(acceptance.refusal));
         return 1;
     }
     printf("memory %" PRIu32 " steps at most %" PRIu32 "\n", acceptance.memory, acceptance.steps);

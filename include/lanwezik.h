@@ -34,18 +34,21 @@ extern "C" {
 
 enum {
     LANWEZIK_GOOD = 0,      /* not refused */
-    LANWEZIK_MALFORMED = 1, /* a number is cut short, not shortest, or over three groups */
+    LANWEZIK_MALFORMED = 1, /* a number is not shortest, or over three groups: throw the
+                               program away, no bytes behind it would mend it */
     LANWEZIK_OUTSIDE = 2,   /* a count, kind, field, code or expression is out of bounds;
                                or bytes follow the end */
     LANWEZIK_ABSENT = 3,    /* a reference to no block, or to the word of a kind without one */
     LANWEZIK_MEMORY = 4,    /* the program's memory is over 5,000 */
     LANWEZIK_BAD_STATE = 5, /* no state is like the one given */
     LANWEZIK_OVERRUN = 6,   /* the time would run over, or missed might */
-    LANWEZIK_BAD_TEXT = 7   /* a text is no formula */
+    LANWEZIK_BAD_TEXT = 7,  /* a text is no formula */
+    LANWEZIK_CUT = 8        /* the end of the data cuts a number: send the program again */
 };
 
-/* The program's own refusal, 1 to 4, comes before 5, and 5 before 6; of a
- * formula 7 comes before 2. */
+/* The program's own refusal, 1 to 4 or 8, comes before 5, and 5 before 6; of a
+ * formula 7 comes before 2.  At one place 1 and 8 cannot both apply.  A good
+ * program that lacks bytes at its end, few or all, is refused with 8. */
 
 /* ---- State ---- */
 
@@ -98,10 +101,10 @@ typedef struct {
 
 /* Of lanwezik_accept. */
 typedef struct {
-    uint32_t refusal; /* LANWEZIK_GOOD to LANWEZIK_MEMORY */
+    uint32_t refusal; /* LANWEZIK_GOOD to LANWEZIK_MEMORY, or LANWEZIK_CUT */
     uint32_t memory;  /* at most 5,000; 0 if refused */
     uint32_t steps;   /* the most that a scan of this program takes; 0 if refused */
-    uint64_t place;   /* offset of the fault for 1 to 3, else 0 */
+    uint64_t place;   /* offset of the fault for 1 to 3 and 8, else 0 */
 } lanwezik_acceptance;
 
 /* Of lanwezik_scan.  Refused, all but refusal and place are 0. */
@@ -110,7 +113,7 @@ typedef struct {
     uint32_t alarms; /* the alarm word: bit n is alarm n */
     uint32_t steps;  /* that this scan took */
     uint32_t rises;  /* alarms that are on and were off before */
-    uint64_t place;  /* offset of the program's fault for 1 to 3, else 0 */
+    uint64_t place;  /* offset of the program's fault for 1 to 3 and 8, else 0 */
 } lanwezik_scanned;
 
 /* Of lanwezik_take.  If none was found, number and time are 0. */
@@ -182,7 +185,7 @@ static inline void lanwezik_fresh(lanwezik_state *state)
 }
 
 /* Runs every block once, inputs->elapsed ticks after the last scan, and stores
- * the alarms that rose; or refuses (1 to 6) and leaves the state as it was.  The
+ * the alarms that rose; or refuses (1 to 6, 8) and leaves the state as it was.  The
  * program is read anew in each scan: it may lie in read-only memory, and may be
  * another one than in the last scan.  The inputs are only read. */
 static inline lanwezik_scanned lanwezik_scan(const uint8_t *program, size_t length,

@@ -128,7 +128,9 @@ static const char *const WAY_NAMES[WAYS] = {
     X(TIME_AT_END, "time becomes 2^64 - 1") \
     X(MISSED_AT_END, "scan with missed at 2^64 - 33") \
     X(PROGRAM_BEFORE_STATE, "refused 1 to 4, the state bad too") \
+    X(CUT_BEFORE_STATE, "refused 8, the state bad too") \
     X(PROGRAM_BEFORE_OVERRUN, "refused 1 to 4, an overrun too") \
+    X(CUT_BEFORE_OVERRUN, "refused 8, an overrun too") \
     X(STATE_BEFORE_OVERRUN, "refused 5, an overrun too") \
     X(OVERRUN_TIME, "refused 6 by the time") \
     X(OVERRUN_MISSED, "refused 6 by missed") \
@@ -144,7 +146,7 @@ typedef enum { EVENTS(EVENT_NAME) EVENT_COUNT } event;
 
 static const char *const EVENT_TEXTS[EVENT_COUNT] = {EVENTS(EVENT_TEXT)};
 
-enum { REFUSALS = 8 };
+enum { REFUSALS = 9 };
 
 static uint64_t calls[CALLS][REFUSALS];
 static uint64_t ways[CALLS][WAYS];
@@ -622,6 +624,8 @@ void cover_refused_scan(uint32_t refusal, way how, const lanwezik_state *before,
 
     note(PROGRAM_BEFORE_STATE, refusal < LANWEZIK_BAD_STATE && how != GOOD_STATE);
     note(PROGRAM_BEFORE_OVERRUN, refusal < LANWEZIK_BAD_STATE && (time || missed));
+    note(CUT_BEFORE_STATE, refusal == LANWEZIK_CUT && how != GOOD_STATE);
+    note(CUT_BEFORE_OVERRUN, refusal == LANWEZIK_CUT && (time || missed));
     note(STATE_BEFORE_OVERRUN, refusal == LANWEZIK_BAD_STATE && (time || missed));
     note(OVERRUN_TIME, refusal == LANWEZIK_OVERRUN && time);
     note(OVERRUN_MISSED, refusal == LANWEZIK_OVERRUN && missed);
@@ -647,7 +651,7 @@ static void print_count(const char *first, const char *second, uint64_t count)
 }
 
 /* Which refusals a call can answer, one a bit. */
-static const uint8_t CAN_ANSWER[CALLS] = {0x1F, 0x85, 0x01, 0x7F, 0x21};
+static const uint16_t CAN_ANSWER[CALLS] = {0x11F, 0x85, 0x01, 0x17F, 0x21};
 
 static void print_calls(call which)
 {

@@ -26,7 +26,7 @@ typedef enum {
 /* Notes a call that was compared and found the same. */
 void cover_call(call which, uint32_t refusal, way how);
 
-/* Notes what a program was refused for, by 1, 2 or 3. */
+/* Notes what a program was refused for, by 1, 2, 3 or 8. */
 void cover_fault(call which, const uint8_t *program, size_t length, uint32_t refusal,
                  uint64_t place);
 

@@ -323,6 +323,13 @@ static bool is_right(call which, uint32_t refusal, const lanwezik_state *before,
     return memcmp(image, before, sizeof *before) == 0;
 }
 
+/* True for the refusals whose place is a number of the program. */
+static bool is_of_a_number(uint32_t refusal)
+{
+    return refusal == LANWEZIK_MALFORMED || refusal == LANWEZIK_OUTSIDE
+        || refusal == LANWEZIK_ABSENT || refusal == LANWEZIK_CUT;
+}
+
 /* Answers the right acceptance. */
 static lanwezik_acceptance check_accept(const uint8_t *bytes, size_t length)
 {
@@ -333,7 +340,7 @@ static lanwezik_acceptance check_accept(const uint8_t *bytes, size_t length)
     if (library.refusal == right.refusal && library.place == right.place
         && library.memory == right.memory && library.steps == right.steps) {
         cover_call(ACCEPT, right.refusal, GOOD_STATE);
-        if (right.refusal != LANWEZIK_GOOD && right.refusal < LANWEZIK_MEMORY)
+        if (is_of_a_number(right.refusal))
             cover_fault(ACCEPT, bytes, length, right.refusal, right.place);
         return right;
     }
@@ -421,7 +428,7 @@ static void check_scan(const uint8_t *bytes, size_t length, uint32_t figure,
         && library.rises == right.rises
         && is_right(SCAN, right.refusal, &before, image, &after)) {
         cover_call(SCAN, right.refusal, how);
-        if (right.refusal != LANWEZIK_GOOD && right.refusal < LANWEZIK_MEMORY)
+        if (is_of_a_number(right.refusal))
             cover_fault(SCAN, bytes, length, right.refusal, right.place);
         if (right.refusal == LANWEZIK_GOOD)
             cover_scan(bytes, &before, given, &right, figure, &after);

@@ -49,13 +49,17 @@ static bool pass(walk *w)
 /* Refusal 1: what is wrong with the number that these bytes begin with. */
 static fault fault_of_number(const uint8_t *bytes, size_t left)
 {
-    if (left < 2)
-        return CUT_SHORT;
     if (bytes[1] < 0x80)
-        return NOT_SHORTEST;
-    if (left < 3)
-        return CUT_SHORT;
-    return bytes[2] < 0x80 ? NOT_SHORTEST : OVER_THREE;
+        return NOT_SHORTEST_TWO;
+    if (bytes[2] < 0x80)
+        return NOT_SHORTEST_THREE;
+    return left > 3 ? OVER_THREE : OVER_THREE_LAST;
+}
+
+/* Refusal 8: how many bytes of the number are left. */
+static fault fault_of_cut(size_t left)
+{
+    return left == 0 ? CUT_BEFORE : left == 1 ? CUT_AFTER_ONE : CUT_AFTER_TWO;
 }
 
 /* The fault of a field whose number was just read. */
@@ -150,5 +154,7 @@ fault find_fault(const uint8_t *program, size_t length, uint32_t refusal, uint64
 
     if (refusal == 1)
         return fault_of_number(program + place, length - w.place);
+    if (refusal == 8)
+        return fault_of_cut(length - w.place);
     return find_in_program(&w);
 }

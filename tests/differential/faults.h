@@ -1,4 +1,4 @@
-/* Which of the faults that document 01 names a refused program has.
+/* Which of the faults that document 01 and request L2 name a refused program has.
  */
 #ifndef DIFFERENTIAL_FAULTS_H
 #define DIFFERENTIAL_FAULTS_H
@@ -7,9 +7,13 @@
 #include <stdint.h>
 
 #define FAULTS(X) \
-    X(CUT_SHORT, "1, cut short") \
-    X(NOT_SHORTEST, "1, not shortest") \
+    X(CUT_BEFORE, "8, cut before its first byte") \
+    X(CUT_AFTER_ONE, "8, cut after one byte") \
+    X(CUT_AFTER_TWO, "8, cut after two bytes") \
+    X(NOT_SHORTEST_TWO, "1, not shortest in two groups") \
+    X(NOT_SHORTEST_THREE, "1, not shortest in three") \
     X(OVER_THREE, "1, over three groups") \
+    X(OVER_THREE_LAST, "1, over three groups by the last byte") \
     X(NO_BLOCKS, "2, no blocks") \
     X(BLOCKS_OVER, "2, over 200 blocks") \
     X(KIND_OVER, "2, kind") \
@@ -41,7 +45,7 @@ typedef enum { FAULTS(FAULT_NAME) FAULT_COUNT } fault;
 
 extern const char *const FAULT_TEXTS[FAULT_COUNT];
 
-/* The fault of a program that is refused by 1, 2 or 3 at that place. */
+/* The fault of a program that is refused by 1, 2, 3 or 8 at that place. */
 fault find_fault(const uint8_t *program, size_t length, uint32_t refusal, uint64_t place);
 
 #endif

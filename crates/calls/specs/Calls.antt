@@ -48,7 +48,7 @@ abbrev pub answerOf : Inputs → State → Read Program → Scanned
 answerOf x s (got p end) = answered p x s
 answerOf x s (fault n at) = refusedScan s n at
 
--- "Only after the whole is read come 3 .., then 4, 5, 6"; "A scan answers all six"
+-- "Only after the whole is read come 3 .., then 4, 5, 6"; "A scan answers all six", and L2's 8 where 1 stood
 unfoldable pub scanOf : List ℕ → Inputs → State → Scanned
 scanOf bytes x s =
     pick (not (eqb (accepted bytes .refusal) 0)) (refusedScan s (accepted bytes .refusal) (accepted bytes .place))

@@ -35,7 +35,7 @@ wordMarked m (constant n) = true
 unfoldable pub marked : Marks → ℕ → ℕ → Bool
 marked m ty v = refsPass (bitMarked m) (wordMarked m) (saidBy ty v ∷ [])
 
--- "1 before 2 at one number", and 3 last; "the place is the offset of the number's first byte"
+-- "1 before 2 at one number", L2: "8 stands where 1 stood", and 3 last; "the place is the offset of the number's first byte"
 abbrev pub judged : Marks → ℕ → ℕ → ℕ → Num → Read ℕ
 judged m ty before at Bad = fault badNumber at
 judged m ty before at Cut = fault cutNumber at

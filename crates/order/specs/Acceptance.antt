@@ -76,7 +76,7 @@ isThere ks i = refsPass (bitThere ks) (wordThere ks) (saidBy (typeOf (i .expecte
 
 -- The rows of the table for acceptance, where l are the numbers of a program. They exclude one another.
 pub data Accepting (l : List Item) (a : Acceptance) : Type 0 where
-  -- 1 and 2: "the first fault in reading order is reported": every number before it is good, and this one is wrong
+  -- 1, 8 and 2: "the first fault in reading order is reported": every number before it is good, and this one is wrong
   stops :
       (before after : List Item) (i : Item) (w : Wrong) → l ≡ before ++ (i ∷ after) → every fares before ≡ true → i .found ≡ wrong w →
       a ≡ refused (refusalFor w) (i .place) → Accepting l a

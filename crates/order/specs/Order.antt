@@ -68,7 +68,7 @@ countOf (field ty) n = 0
 countOf (node depth) n = pick (eqb depth 1) 1 (suc n)
 countOf alarms n = 0
 
--- What may be wrong with a number: "not shortest, or over three groups"; "cut short"; not allowed for its type, after the setting before it;
+-- What may be wrong with a number: "not shortest, or over three groups"; L2: "cut by the end of the data"; not allowed for its type, after the setting before it;
 -- "deeper than 16"; over "63 nodes"; or there is a byte "after the end".
 pub data Wrong : Type 0 where
   malformed : Wrong
@@ -118,7 +118,7 @@ onward x xs p next (good v) =
     goes (itemAt x p (good v)) (record { expects = follows x v ++ xs; setting = settingLeft x v; count = countOf x (p .count); at = next })
 onward x xs p next (wrong w) = stops (itemAt x p (wrong w))
 
--- "1 before 2 at one number"
+-- "1 before 2 at one number", and L2: "8 stands where 1 stood"
 abbrev pub turnOn : Expected → List Expected → Spot → Num → Turn
 turnOn x xs p Bad = stops (itemAt x p (wrong malformed))
 turnOn x xs p Cut = stops (itemAt x p (wrong isCut))

@@ -1,4 +1,4 @@
--- The numbers of faults: a reading finds 1, 2, or 3 at an allowed number that is not marked. So no fault has number 0, which stands for no refusal.
+-- The numbers of faults: a reading finds 1, 8, 2, or 3 at an allowed number that is not marked. So no fault has number 0, which stands for no refusal.
 -- One law puts two readings after one another. Assumes nothing.
 use Prim.Native.Nat.{ℕ, zero, suc, _-_, _<_}
 use mathlib.Core.Path.{_≡_, refl, subst}

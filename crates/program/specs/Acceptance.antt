@@ -16,7 +16,7 @@ use Rattle.program.specs.declared.Acceptance.{Acceptance}
 abbrev pub refused : ℕ → ℕ → Acceptance
 refused n at = record { refusal = n; place = at; memory = 0; steps = 0 }
 
--- "Acceptance answers 1 to 4 and, if good, memory and step figure"; no refusal is number 0 at place 0
+-- "Acceptance answers 1 to 4 and, if good, memory and step figure", and L2: "8 stands where 1 stood"; no refusal is number 0 at place 0
 abbrev pub granted : ℕ → ℕ → Acceptance
 granted m n = record { refusal = 0; place = 0; memory = m; steps = n }
 

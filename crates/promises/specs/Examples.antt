@@ -1,4 +1,4 @@
--- Document 01, "Examples": P1 to P13, one table under one claim, over the definitions that the calls' contracts cite.
+-- Document 01, "Examples", as requests have changed them: P1 to P13, one table under one claim, over the definitions that the calls' contracts cite.
 use mathlib.Core.Bool.{Bool, true, false}
 use mathlib.Core.List.{List, [], _∷_, _++_}
 use mathlib.Core.Path.{_≡_}
@@ -59,8 +59,8 @@ abbrev pub examples : List Example
 examples =
     -- P1 `01 07 02 00 02 01 22`: accepted, memory 16, steps 1.
     accepting (p1 (0x22 ∷ [])) (granted 16 1)
-    -- P2 no bytes: 1 at 0.
-    ∷ accepting [] (refused 1 0)
+    -- P2 no bytes: 8 at 0 (L2).
+    ∷ accepting [] (refused 8 0)
     -- P3 `00`: 2 at 0.
     ∷ accepting (0x00 ∷ []) (refused 2 0)
     -- P4 `81 00`: 1 at 0.
@@ -69,8 +69,8 @@ examples =
     ∷ accepting (p1 (0x22 ∷ 0x00 ∷ [])) (refused 2 7)
     -- P6 P1 ending `23`: 3 at 6.
     ∷ accepting (p1 (0x23 ∷ [])) (refused 3 6)
-    -- P7 P1 without its last byte: 1 at 6.
-    ∷ accepting (p1 []) (refused 1 6)
+    -- P7 P1 without its last byte: 8 at 6 (L2).
+    ∷ accepting (p1 []) (refused 8 6)
     -- P8 AND(off, XOR(on, on)): off, 2 steps.
     ∷ running (numbers (1 ∷ 0 ∷ 1 ∷ (6 + 0) ∷ 3 ∷ (6 + 1) ∷ (6 + 1) ∷ 0 ∷ [])) (after 0 0 (pos 0) ∷ []) (seen false (pos 0) 2 ∷ [])
     -- P9 DL on 50, unit 0, I on, E 20: on in the third scan.

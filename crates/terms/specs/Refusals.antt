@@ -1,13 +1,9 @@
 -- Document 01, "Numbers of refusal": the one table of them, for all definitions; `src/lib.rt` has the same names for the code.
 use Prim.Native.Nat.{ℕ}
 
--- "a number is .. not shortest, or over three groups"
+-- "a number is .. not shortest, or over three groups". Request L2: "Refusal 1 stays for a number that is badly formed"
 abbrev pub badNumber : ℕ
 badNumber = 1
-
--- "a number is cut short"
-abbrev pub cutNumber : ℕ
-cutNumber = 1
 
 -- "block or alarm count, kind, field, reference code or expression outside the above; ..; bytes after the end"
 abbrev pub outside : ℕ
@@ -32,3 +28,7 @@ tooFar = 6
 -- Request L1: "7 bad text"
 abbrev pub badText : ℕ
 badText = 7
+
+-- Request L2: "a number cut by the end of the data becomes 8"
+abbrev pub cutNumber : ℕ
+cutNumber = 8

@@ -5,8 +5,6 @@ ghost use Rattle.terms.specs.Words.{signed, holdWord};
 // The numbers of refusal, by the names of specs/Refusals.
 pub const BAD_NUMBER: u8 = 1;
 
-pub const CUT_NUMBER: u8 = 1;
-
 pub const OUTSIDE: u8 = 2;
 
 pub const ASTRAY: u8 = 3;
@@ -18,6 +16,8 @@ pub const BAD_STATE: u8 = 5;
 pub const TOO_FAR: u8 = 6;
 
 pub const BAD_TEXT: u8 = 7;
+
+pub const CUT_NUMBER: u8 = 8;
 
 // Held to the range of a word.
 pub fn hold(z: i32) -> i16

@@ -25,7 +25,7 @@ fn longer(s: &[u8], at: usize, low: u32) -> Num
     let b = s[at];
     if b < 128 {
         if b < NOT_ZERO {
-            return Num::Bad;
+            return Num::Bad; // as 81 00
         }
         return Num::Got(low + (b as u32) * 128, at + 1);
     }
@@ -35,7 +35,7 @@ fn longer(s: &[u8], at: usize, low: u32) -> Num
     let c = s[at + 1];
     if c < 128 {
         if c < NOT_ZERO {
-            return Num::Bad;
+            return Num::Bad; // as 81 80 00
         }
         let high = ((b % 128) as u32) + (c as u32) * 128;
         return Num::Got(low + high * 128, at + 2);
