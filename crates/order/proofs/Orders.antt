@@ -6,8 +6,7 @@ use mathlib.Core.Bool.{true, false}
 use mathlib.Core.List.{List, [], _∷_, _++_, append-nil}
 use lib.ListN.{length}
 use Rattle.terms.specs.Choice.{every}
-use Rattle.terms.proofs.Choice.{never, both}
-use Rattle.terms.proofs.Every.{every-join}
+use Rattle.terms.proofs.Choice.{never}
 use Rattle.wire.specs.Reading.{Read, got, fault}
 use Rattle.numbers.specs.Blocks.{Block}
 use Rattle.numbers.specs.Reading.{Marks, bitMarked, wordMarked, marked}
@@ -19,7 +18,7 @@ use Rattle.program.proofs.Marks.{marked-bits, marked-words}
 use Rattle.order.specs.Order.{Item, Spot, goes, stops, ends, turnAt, numbersFrom, front, numbersIn}
 use Rattle.order.specs.Acceptance.{kindsIn, isThere, fares, InOrder}
 use Rattle.order.proofs.Rows.{none, first, firstNot, none-fails, fails-at, refusalOf, byReferences, acceptedBy, rows}
-use Rattle.order.proofs.Passes.{stop-wrong, all-good, whole}
+use Rattle.order.proofs.Passes.{stop-wrong, all-good, whole, not-all-good}
 use Rattle.order.proofs.Comes.{marks, Way, at-wrong, at-astray, at-both, Comes, reads, halts}
 use Rattle.order.proofs.Programs.{Whole, program-comes}
 
@@ -58,11 +57,7 @@ module _ (s : List ℕ) where
 
     -- no wrong number is among them
     no-wrong : {k : List Item} {o : Spot} {i : Item} → Way (marksOf (p .blocks)) s front k o → turnAt s o ≡ stops i → ⊥
-    no-wrong {k} {o} {i} a e =
-        let n : numbersIn s ≡ k ++ (i ∷ []) = whole s (a .passes) ∙ rw e in
-        let g : every fares (k ++ (i ∷ [])) ≡ true = rw (sym all ∙ n) at (all-good s (w .passes)) in
-        let z : every fares (i ∷ []) ≡ true = both (every fares k) (every fares (i ∷ [])) (sym (every-join fares k (i ∷ [])) ∙ g) .1 in
-        never (sym (both (fares i) true z .0) ∙ stop-wrong s o e)
+    no-wrong a e = not-all-good s (a .passes) e (ap (every fares) all ∙ all-good s (w .passes))
 
     -- by the second reading, every reference is there
     found : {k : List Item} {o : Spot} → Way (marksOf (p .blocks)) s front k o → turnAt s o ≡ ends → firstNot (isThere (kindsIn l)) l ≡ none

@@ -1,14 +1,15 @@
 -- Good numbers, one after the other from a spot, and the list that they begin: each takes a byte, so the list has them all. Assumes nothing.
-use Prim.Native.Nat.{ℕ, suc, _+_, _-_, _<_, _≤_}
-use mathlib.Core.Path.{_≡_, refl, subst, ap, _∙_}
+use Prim.Native.Nat.{ℕ, zero, suc, _+_, _-_, _<_, _≤_}
+use mathlib.Core.Path.{_≡_, refl, sym, subst, ap, _∙_}
 use mathlib.Core.Bool.{true, false}
 use mathlib.Core.List.{List, [], _∷_, _++_}
 use native.Mathlib.Omega.{arith}
 use native.Mathlib.Nat.{zero-add}
 use lib.Dec.{ltb}
 use lib.ListN.{length}
+use borrow.Author.Tests.{lt-ltb}
 use Rattle.terms.specs.Choice.{every}
-use Rattle.terms.proofs.Choice.{pick-case}
+use Rattle.terms.proofs.Choice.{never, both, pick-case}
 use Rattle.terms.proofs.Every.{both-hold}
 use Rattle.wire.specs.declared.Num.{Num}
 use Rattle.wire.specs.declared.Num.the-variants.{Got, Bad, Cut}
@@ -18,27 +19,32 @@ use Rattle.order.specs.Order.{Expected, Found, good, wrong, Item, Spot, 
 use Rattle.order.specs.Order.{onward, turnOn, turnBy, turnAt, listed, numbersFrom, front, numbersIn}
 use Rattle.order.specs.Acceptance.{fares}
 
+-- numbers with a wrong one among them are not all good
+pub one-wrong : (l r : List Item) (i : Item) → every fares (l ++ (i ∷ r)) ≡ true → fares i ≡ false → ⊥
+one-wrong [] r i g f = never (sym (both (fares i) (every fares r) g .0) ∙ f)
+one-wrong (j ∷ l) r i g f = one-wrong l r i (both (fares j) (every fares (l ++ (i ∷ r))) g .1) f
+
 module _ (s : List ℕ) where
-  -- what a turn tells: a good number takes bytes of the data, and one at which it stops is wrong
+  -- what a turn tells: its number stands at the spot; a good one takes bytes of the data, and one at which it stops is wrong
   abbrev Fair : Spot → Turn → Type 0
-  Fair p (goes i q) = (fares i ≡ true) × ((p .at < q .at) × (q .at ≤ length s))
-  Fair p (stops i) = fares i ≡ false
+  Fair p (goes i q) = ((fares i ≡ true) × (i .place ≡ p .at)) × ((p .at < q .at) × (q .at ≤ length s))
+  Fair p (stops i) = (fares i ≡ false) × (i .place ≡ p .at)
   Fair p ends = Unit {0}
 
   fair-onward : (x : Expected) (xs : List Expected) (p : Spot) (next : ℕ) → p .at < next → next ≤ length s → (f : Found) → Fair p (onward x xs p next f)
-  fair-onward x xs p next h l (good v) = (refl, (h, l))
-  fair-onward x xs p next h l (wrong w) = refl
+  fair-onward x xs p next h l (good v) = ((refl, refl), (h, l))
+  fair-onward x xs p next h l (wrong w) = (refl, refl)
 
   fair-on : (x : Expected) (xs : List Expected) (p : Spot) (n : Num) → numberAt s (p .at) ≡ n → Fair p (turnOn x xs p n)
   unfolding numberAt
-  fair-on x xs p Bad e = refl
-  fair-on x xs p Cut e = refl
+  fair-on x xs p Bad e = (refl, refl)
+  fair-on x xs p Cut e = (refl, refl)
   fair-on x xs p (Got v next) e =
       let t = takes 3 0 s (p .at) v next e in
       fair-onward x xs p next (t .0) (t .1 .1) (foundOf x (p .setting) (countOf x (p .count)) v)
 
   fair-by : (p : Spot) (xs : List Expected) → Fair p (turnBy s p xs)
-  fair-by p [] = pick-case (Fair p) (ltb (p .at) (length s)) (λ _. refl) (λ _. tt)
+  fair-by p [] = pick-case (Fair p) (ltb (p .at) (length s)) (λ _. (refl, refl)) (λ _. tt)
   fair-by p (x ∷ xs) = fair-on x xs p (numberAt s (p .at)) refl
 
   fair : (p : Spot) → Fair p (turnAt s p)
@@ -46,7 +52,7 @@ module _ (s : List ℕ) where
   fair p = fair-by p (p .expects)
 
   pub stop-wrong : (p : Spot) {i : Item} → turnAt s p ≡ stops i → fares i ≡ false
-  stop-wrong p e = subst (Fair p) e (fair p)
+  stop-wrong p e = subst (Fair p) e (fair p) .0
 
   -- from one spot to another by good numbers
   pub data Passes : Spot → List Item → Spot → Type 0 where
@@ -59,10 +65,10 @@ module _ (s : List ℕ) where
 
   pub all-good : {p q : Spot} {l : List Item} → Passes p l q → every fares l ≡ true
   all-good here = refl
-  all-good (past {p} e a) = both-hold (subst (Fair p) e (fair p) .0) (all-good a)
+  all-good (past {p} e a) = both-hold (subst (Fair p) e (fair p) .0 .0) (all-good a)
 
   -- the place grows with each of them, within the data
-  grows : {p q : Spot} {l : List Item} → Passes p l q → p .at ≤ length s → (p .at + length l ≤ q .at) × (q .at ≤ length s)
+  pub grows : {p q : Spot} {l : List Item} → Passes p l q → p .at ≤ length s → (p .at + length l ≤ q .at) × (q .at ≤ length s)
   grows here h = (omega arith, h)
   grows (past {p} e a) h =
       let t = subst (Fair p) e (fair p) in
@@ -81,3 +87,21 @@ module _ (s : List ℕ) where
       let u = grows a (omega arith) in
       let z : suc (length s) ≡ length l + suc (length s - length l) = omega arith in
       ap (λ (n : ℕ). numbersFrom n s front) z ∙ run a (suc (length s - length l))
+
+  -- where the list stops at a wrong number
+  pub not-all-good : {q : Spot} {l : List Item} {i : Item} → Passes front l q → turnAt s q ≡ stops i → every fares (numbersIn s) ≡ true → ⊥
+  not-all-good {q} {l} {i} a e g =
+      let n : numbersIn s ≡ l ++ (i ∷ []) = whole a ∙ rw e in
+      one-wrong l [] i (sym (ap (every fares) n) ∙ g) (stop-wrong q e)
+
+  -- the numbers from a spot on stand there or behind
+  behind-turn : (k : ℕ) (p : Spot) (rest : Spot → List Item) → k < p .at → (t : Turn) → Fair p t
+      → ((q : Spot) → k < q .at → every (λ i. ltb k (i .place)) (rest q) ≡ true) → every (λ i. ltb k (i .place)) (listed t rest) ≡ true
+  behind-turn k p rest h (goes i q) f g = both-hold (lt-ltb k (i .place) (omega (arith, f .0 .1))) (g q (omega (arith, f .1 .0)))
+  behind-turn k p rest h (stops i) f g = both-hold (lt-ltb k (i .place) (omega (arith, f .1))) refl
+  behind-turn k p rest h ends f g = refl
+
+  pub behind : (n k : ℕ) (p : Spot) → k < p .at → every (λ i. ltb k (i .place)) (numbersFrom n s p) ≡ true
+  unfolding numbersFrom
+  behind zero k p h = refl
+  behind (suc n) k p h = behind-turn k p (λ q. numbersFrom n s q) h (turnAt s p) (fair p) (behind n k)

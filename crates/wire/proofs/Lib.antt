@@ -1,3 +1,4 @@
 pub mod Reasons
 pub mod Laws
+pub mod Continued
 pub mod Gives
