@@ -13,13 +13,16 @@ use Rattle.calls.specs.declared.Scanned.{Scanned}
 use Rattle.calls.specs.Calls.{scanOf}
 use Rattle.recording.specs.Recording.{Part, whole, bad, cut, lengthIn, scanAt}
 
--- What a scan came to, or the program: the scan was run, with its inputs and its answer; "A refusal"; "A scan cut, malformed or out of range"; "A length
--- malformed or over 16,384, or too few bytes". Each of the last three "ends the run".
+-- What a scan came to, or the program: the scan was run, with its inputs and its answer; "A refusal"; "A scan .. malformed or out of range"; one that is
+-- "cut"; "A length malformed or over 16,384"; or "too few bytes". All but the first "ends the run". L2: "Everything that reads numbers passes the
+-- difference on", though document 01 has the same line for what is bad and for what is cut.
 pub data Came : Type 0 where
   ran : Inputs → Scanned → Came
   refused : ℕ → ℕ → Came
   badScan : Came
+  cutScan : Came
   badProgram : Came
+  cutProgram : Came
 
 -- how far a recording has come: its program is not all there yet; its scans are run, by that program and in a state; the run has ended
 pub data Stage : Type 0 where
@@ -112,9 +115,9 @@ fed over l = pausing over []
 
 -- where no bytes follow: "too few bytes" are no program, and what is left of a scan is "cut"
 abbrev pub finished : Stage → List ℕ → List Came
-finished opening l = badProgram ∷ []
+finished opening l = cutProgram ∷ []
 finished (playing program st) [] = []
-finished (playing program st) (b ∷ l) = badScan ∷ []
+finished (playing program st) (b ∷ l) = cutScan ∷ []
 finished over l = []
 
 -- what a whole recording comes to

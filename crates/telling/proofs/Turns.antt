@@ -19,7 +19,7 @@ use Rattle.calls.specs.Calls.{scanOf}
 use Rattle.recording.specs.Recording.{Part, whole, bad, cut, scanAt, leastBytes}
 use Rattle.recording.proofs.Ends.{Takes, scan-takes}
 use Rattle.recording.proofs.Moves.{shifted, scan-left}
-use Rattle.playback.specs.Playback.{Came, ran, refused, badScan, badProgram, Stage, playing, over, Fed, pausing, ending, before}
+use Rattle.playback.specs.Playback.{Came, ran, refused, badScan, cutScan, badProgram, cutProgram, Stage, playing, over, Fed, pausing, ending, before}
 use Rattle.playback.specs.Playback.{runs, refuses, turnBy, turnOf, playedBy, playedIn, played}
 use Rattle.playback.specs.Answers.{turned}
 use Rattle.playback.specs.declared.Turning.{Turning}
@@ -42,7 +42,9 @@ pub came-short : (c : Came) → length (lineFor c) ≤ lineBytes
 came-short (ran x a) = line-short (a .state .time) (a .steps) (a .state .journal .held) (a .state .journal .missed)
 came-short (refused n at) = refused-short n at
 came-short badScan = omega arith
+came-short cutScan = omega arith
 came-short badProgram = omega arith
+came-short cutProgram = omega arith
 
 module _ (program window : List ℕ) where
   -- what the scans from a place on come to, by the turn of the first

@@ -3,7 +3,7 @@ use mathlib.Core.List.{List, [], _∷_, _++_}
 use Prim.Native.Nat.{ℕ}
 use Rattle.lines.specs.Lines.{lineWith, refusedLine, badScan as badScanLine, badProgram as badProgramLine}
 use Rattle.calls.specs.declared.Scanned.{Scanned}
-use Rattle.playback.specs.Playback.{Came, ran, refused, badScan, badProgram}
+use Rattle.playback.specs.Playback.{Came, ran, refused, badScan, cutScan, badProgram, cutProgram}
 
 -- "Per scan it prints time, steps, held, missed"
 abbrev pub lineOf : Scanned → List ℕ
@@ -14,7 +14,9 @@ abbrev pub lineFor : Came → List ℕ
 lineFor (ran x a) = lineOf a
 lineFor (refused n at) = refusedLine n at
 lineFor badScan = badScanLine
+lineFor cutScan = badScanLine
 lineFor badProgram = badProgramLine
+lineFor cutProgram = badProgramLine
 
 abbrev pub linesFor : List Came → List ℕ
 linesFor [] = []

@@ -1,13 +1,15 @@
 -- Feeds one after another are one feed of all their bytes, so a recording comes to the same however it is cut into windows. Assumes nothing.
 use Prim.Native.Nat.{ℕ, _+_, _≤_, _<_}
-use mathlib.Core.Path.{_≡_, refl, sym}
+use mathlib.Core.Path.{_≡_, refl, sym, _∙_}
 use mathlib.Core.Bool.{Bool, true, false}
 use mathlib.Core.List.{List, [], _∷_, _++_, append-nil, append-assoc}
 use native.Mathlib.Omega.{arith}
 use lib.Dec.{eqb}
 use lib.ListN.{length, take, drop, length-drop}
 use lib.Seq.{take-append-le, drop-append-le}
-use Rattle.terms.specs.Choice.{pick}
+use Rattle.terms.specs.Choice.{pick, every}
+use Rattle.terms.proofs.Choice.{never}
+use Rattle.terms.proofs.Every.{every-append}
 use Rattle.wire.specs.Number.{groupsAt, numberAt}
 use Rattle.program.specs.Acceptance.{accepted}
 use Rattle.image.specs.State.{freshState}
@@ -16,7 +18,7 @@ use Rattle.recording.proofs.Heads.{Fit, length-fits}
 use Rattle.recording.proofs.Prefixes.{Stays, length-stays}
 use Rattle.playback.specs.Playback.{Came, refused, badProgram, Stage, opening, playing, over, Fed, pausing}
 use Rattle.playback.specs.Playback.{opens, refusesIt, openedBy, openedOf, openingIn, openedTo, fed, finished, course}
-use Rattle.windows.specs.Windows.{inWindows, joined, Windows}
+use Rattle.windows.specs.Windows.{inWindows, joined, goesOn, Windows}
 use Rattle.windows.proofs.Plays.{andFed, after-end, played-join, Settled, end-settled, played-settled}
 
 -- the opening, of u and of more bytes
@@ -58,21 +60,22 @@ opened-settled l program next = go (eqb (accepted program .refusal) 0)
 record Left (f : Fed) : Type 0 where
   rests : fed (f .stage) (f .left) ≡ pausing (f .stage) (f .left)
   short : length (f .left) < 3 + programBytes
+  closes : every goesOn (f .came) ≡ false → f .stage ≡ over
 
 left-of : {f : Fed} → Settled f → Left f
-left-of s = record { rests = s .rests; short = omega (arith, s .short) }
+left-of s = record { rests = s .rests; short = omega (arith, s .short); closes = s .closes }
 
 opening-left : (l : List ℕ) (p : Part ℕ) → lengthIn l ≡ p → Fit l p → Left (openedTo l (openedOf l p))
 unfolding fed openingIn
 opening-left l (whole n at) e f = left-of (opened-settled l (take n (drop at l)) (at + n))
 opening-left l bad e f = left-of (end-settled badProgram)
-opening-left l cut e f = record { rests = rw e; short = f }
+opening-left l cut e f = record { rests = rw e; short = f; closes = λ g. never g }
 
 left : (g : Stage) (l : List ℕ) → Left (fed g l)
 unfolding fed openingIn
 left opening l = opening-left l (lengthIn l) refl (length-fits l)
 left (playing program st) l = left-of (played-settled program st l)
-left over l = record { rests = refl; short = omega arith }
+left over l = record { rests = refl; short = omega arith; closes = λ _. refl }
 
 -- windows
 abbrev result : Fed → List Came
@@ -87,6 +90,30 @@ in-windows (w ∷ ws) g l e =
     let h : Fed = fed (f .stage) (f .left ++ joined ws) in
     rw (ih, sym (append-assoc l w (joined ws)), fed-join g (l ++ w) (joined ws)) (sym (append-assoc (f .came) (h .came) (finished (h .stage) (h .left))))
 
+-- what the end of the input comes to goes on, so what does not came before
+ends-go-on : (g : Stage) (l : List ℕ) → every goesOn (finished g l) ≡ true
+ends-go-on opening l = refl
+ends-go-on (playing program st) [] = refl
+ends-go-on (playing program st) (b ∷ l) = refl
+ends-go-on over l = refl
+
+closed-before : (f : Fed) → every goesOn (result f) ≡ false → every goesOn (f .came) ≡ false
+closed-before f e = go (every goesOn (f .came)) refl
+  where
+    go : (b : Bool) → every goesOn (f .came) ≡ b → every goesOn (f .came) ≡ false
+    go true h = never (sym (every-append goesOn (f .came) (finished (f .stage) (f .left)) h (ends-go-on (f .stage) (f .left))) ∙ e)
+    go false h = h
+
+-- what follows then is not looked at
+closed-on : (f : Fed) (v : List ℕ) → f .stage ≡ over → result (andFed f (λ g l. fed g (l ++ v))) ≡ result f
+unfolding fed
+closed-on f v e = rw (e, append-nil (f .came)) (append-nil (f .came))
+
+closed-stays : (u v : List ℕ) → every goesOn (course u) ≡ false → course (u ++ v) ≡ course u
+unfolding course
+closed-stays u v e =
+    rw (fed-join opening u v) (closed-on (fed opening u) v (left opening u .closes (closed-before (fed opening u) e)))
+
 -- before the first
 nothing : fed opening [] ≡ pausing opening []
 unfolding fed openingIn lengthIn numberAt groupsAt
@@ -98,4 +125,5 @@ windows =
     record {
       same = λ ws. in-windows ws opening [] nothing;
       short = λ g l. left g l .short;
+      closed = closed-stays;
     }

@@ -7,7 +7,8 @@ use native.Mathlib.Omega.{arith}
 use lib.Dec.{eqb}
 use lib.ListN.{length, drop, length-append, length-drop}
 use lib.Seq.{drop-append-le}
-use Rattle.terms.specs.Choice.{pick}
+use Rattle.terms.specs.Choice.{pick, every}
+use Rattle.terms.proofs.Choice.{never}
 use Rattle.image.specs.declared.State.{State}
 use Rattle.scanning.specs.Scan.{Inputs}
 use Rattle.calls.specs.Calls.{scanOf}
@@ -15,8 +16,9 @@ use Rattle.wire.specs.Number.{groupsAt, numberAt}
 use Rattle.recording.specs.Recording.{Part, whole, bad, cut, shortsAt, scanAt}
 use Rattle.recording.proofs.Ends.{Takes, scan-takes}
 use Rattle.recording.proofs.Prefixes.{Stays, scan-stays}
-use Rattle.playback.specs.Playback.{Came, ran, refused, badScan, Stage, playing, Fed, pausing, ending, before}
+use Rattle.playback.specs.Playback.{Came, ran, refused, badScan, Stage, playing, over, Fed, pausing, ending, before}
 use Rattle.playback.specs.Playback.{runs, refuses, turnBy, turnOf, playedBy, playedIn, played, fed}
+use Rattle.windows.specs.Windows.{goesOn}
 
 -- no bytes are no scan yet
 none : scanAt [] 0 ≡ cut
@@ -111,21 +113,22 @@ module _ (program : List ℕ) where
   unfolding played
   played-join st u v = join-in (length u) (length (u ++ v)) st u v (omega arith) (omega arith)
 
--- what is left is played no further, and is shorter than the longest scan, eleven numbers of three bytes
+-- what is left is played no further, and is shorter than the longest scan, eleven numbers of three bytes; and what does not go on ends the run
 pub record Settled (f : Fed) : Type 0 where
   pub rests : fed (f .stage) (f .left) ≡ pausing (f .stage) (f .left)
   pub short : length (f .left) < 33
+  pub closes : every goesOn (f .came) ≡ false → f .stage ≡ over
 
 pub end-settled : (c : Came) → Settled (ending c)
 unfolding fed
-end-settled c = record { rests = refl; short = omega arith }
+end-settled c = record { rests = refl; short = omega arith; closes = λ _. refl }
 
 module _ (program : List ℕ) where
   waiting : (st : State) (l : List ℕ) → scanAt l 0 ≡ cut → Settled (pausing (playing program st) l)
   unfolding fed playedIn
   waiting st l e =
       let z : played program st l ≡ playedIn (suc (length l)) program st l = sym (all-of program (suc (length l)) st l (omega arith)) in
-      record { rests = z ∙ rw e; short = subst (Takes l 11 0) e (scan-takes l 0 (omega arith)) }
+      record { rests = z ∙ rw e; short = subst (Takes l 11 0) e (scan-takes l 0 (omega arith)); closes = λ f. never f }
 
   settled-in : (n : ℕ) (st : State) (l : List ℕ) → length l ≤ n → Settled (playedIn n program st l)
   unfolding playedIn turnBy
@@ -138,7 +141,7 @@ module _ (program : List ℕ) where
         where
           go : (b : Bool) → let a = scanOf program x st in
               Settled (playedBy program st l (λ s k. playedIn n program s (drop k l)) (pick b (runs x a k) (refuses a)))
-          go true = let s = ih (scanOf program x st .state) k (fewer program l n h e) in record { rests = s .rests; short = s .short }
+          go true = let s = ih (scanOf program x st .state) k (fewer program l n h e) in record { rests = s .rests; short = s .short; closes = s .closes }
           go false = end-settled _
       by-part bad e ih = end-settled badScan
       by-part cut e ih = waiting st l e

@@ -6,7 +6,7 @@ use native.Mathlib.Omega.{arith}
 use lib.ListN.{length, take}
 use Rattle.text.specs.Text.{Put}
 use Rattle.image.specs.declared.State.{State}
-use Rattle.playback.specs.Playback.{badScan, badProgram, playing, finished}
+use Rattle.playback.specs.Playback.{cutScan, cutProgram, playing, finished}
 use Rattle.telling.specs.Lines.{lineFor, linesFor}
 use borrow.Author.Needs.{needs}
 use Rattle.feeding.proofs.finish.Statement.{statement}
@@ -17,10 +17,10 @@ nothing : (rest program : List ℕ) (st : State) {l : List ℕ} → length rest 
 nothing [] program st e = record { bytes = refl; place = refl }
 nothing (b ∷ l) program st e = absurd (omega arith)
 
-something : (rest program : List ℕ) (st : State) {l m : List ℕ} {to : ℕ} → (length rest ≡ 0 → ⊥) → Put (lineFor badScan) l 0 m to
+something : (rest program : List ℕ) (st : State) {l m : List ℕ} {to : ℕ} → (length rest ≡ 0 → ⊥) → Put (lineFor cutScan) l 0 m to
     → Put (linesFor (finished (playing program st) rest)) l 0 m to
 something [] program st e p = absurd (e refl)
-something (b ∷ l) program st e p = rw (append-nil (lineFor badScan)) p
+something (b ∷ l) program st e p = rw (append-nil (lineFor cutScan)) p
 
 returns : tie.Need-returns
 returns c =
@@ -34,7 +34,7 @@ returns-2 c = rw (c .enum-told .given .1) (record { bytes = refl; place = refl }
 returns-3 : tie.Need-returns-3
 returns-3 c =
     let put = c .before .before in
-    rw (put .before .before .enum-told2 .given .1, append-nil (lineFor badProgram)) (put .write-bad-program .ensures)
+    rw (put .before .before .enum-told2 .given .1, append-nil (lineFor cutProgram)) (put .write-bad-program .ensures)
 
 returns-4 : tie.Need-returns-4
 returns-4 c =
