@@ -88,7 +88,7 @@ module _ (s : List ℕ) where
       let z : suc (length s) ≡ length l + suc (length s - length l) = omega arith in
       ap (λ (n : ℕ). numbersFrom n s front) z ∙ run a (suc (length s - length l))
 
-  -- where the list stops at a wrong number
+  -- and where the list stops at a wrong number, it is not all good
   pub not-all-good : {q : Spot} {l : List Item} {i : Item} → Passes front l q → turnAt s q ≡ stops i → every fares (numbersIn s) ≡ true → ⊥
   not-all-good {q} {l} {i} a e g =
       let n : numbersIn s ≡ l ++ (i ∷ []) = whole a ∙ rw e in
