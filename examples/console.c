@@ -5,8 +5,8 @@
  * out are 0.  Numbers are decimal, or hexadecimal after 0x.  Prints for each
  * scan the time, the alarm word, the steps and the blocks whose output is on,
  * then the alarms that it takes out of the journal.  Of a program that is
- * refused it prints number and place; a cut one is to be sent again, a badly
- * formed one to be thrown away.
+ * refused it prints number and place, and whether a cut or badly formed one is
+ * to be sent again or thrown away.
  */
 #include <errno.h>
 #include <inttypes.h>

@@ -1,6 +1,6 @@
 """Acceptance as document 01 and request L2 say it, and programs to try it on. controller.py, beside it, writes the cases.
 
-It is a reading of these of its own, made from the papers and not from the Rattle code, and knows nothing of how
+It is a reading of its own of both, made from the papers and not from the Rattle code, and knows nothing of how
 that is written. A group of cases gives names with programs.
 """
 
@@ -211,7 +211,7 @@ def examples():
 
 
 def cut_at(n):
-    """Where the number starts that is cut in the first n bytes of GOOD: those of its bytes have the high bit on."""
+    """Where the number starts that is cut in the first n bytes of GOOD: all of its bytes there have the high bit on."""
     return cut_at(n - 1) if n > 0 and GOOD[n - 1] >= 128 else n
 
 

@@ -537,7 +537,8 @@ static void use_program(void)
         use_random_bytes();
 }
 
-/* Changes a copy of the program in a few bytes, or its length. */
+/* Changes a copy of the program in a few bytes, or its length, or cuts it and
+ * begins another number there: cut too, or over three groups by its last byte. */
 static size_t alter_program(uint8_t *bytes)
 {
     uint32_t length = (uint32_t)program.length;
@@ -549,6 +550,12 @@ static size_t alter_program(uint8_t *bytes)
     if (percent(20)) {
         bytes[length] = (uint8_t)below(256);
         return length + 1;
+    }
+    if (percent(20)) {
+        length = below(length + 1);
+        for (times = 1 + below(3); times > 0; times--)
+            bytes[length++] = (uint8_t)(128 + below(128));
+        return length;
     }
     while (times-- > 0) {
         uint32_t at = percent(30) ? below(length < 4 ? length : 4) : below(length);
@@ -748,7 +755,7 @@ static void run_bad(const lanwezik_state *image, const lanwezik_inputs *given)
 /* Another program on a copy of the state. */
 static void run_altered(const lanwezik_state *image, const lanwezik_inputs *given)
 {
-    static uint8_t bytes[ORACLE_MOST_PROGRAM + 1];
+    static uint8_t bytes[ORACLE_MOST_PROGRAM + 3];
     size_t length = alter_program(bytes);
     lanwezik_state copy = *image;
     lanwezik_acceptance acceptance = check_accept(bytes, length);

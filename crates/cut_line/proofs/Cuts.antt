@@ -1,12 +1,13 @@
 -- A program cut anywhere is refused with 8, and no bytes behind a wrong number mend it, unless it was cut. Assumes nothing.
 use Prim.Native.Nat.{ℕ, _-_, _<_}
 use mathlib.Core.Path.{_≡_, refl, sym, ap, _∙_}
-use mathlib.Core.Bool.{true, false}
+use mathlib.Core.Bool.{Bool, true, false, _||_}
 use mathlib.Core.List.{List, [], _∷_, _++_, append-nil}
 use native.Mathlib.Omega.{arith}
+use lib.Dec.{eqb}
 use lib.ListN.{length, length-append}
 use Rattle.terms.specs.Choice.{every}
-use Rattle.terms.specs.Refusals.{cutNumber}
+use Rattle.terms.specs.Refusals.{cutNumber, astray, overMemory}
 use Rattle.terms.proofs.Choice.{never}
 use Rattle.wire.specs.declared.Num.the-variants.{Bad, Cut}
 use Rattle.wire.specs.Number.{groupsAt}
@@ -79,31 +80,33 @@ module _ (u v : List ℕ) (readable : CanBeRead (u ++ v)) (some : 0 < length v) 
 
 -- ---- a wrong number that is not cut
 
-low : (w : Wrong) → (w ≡ isCut → ⊥) → (0 < refusalFor w) × (refusalFor w < 3)
-low malformed h = (omega arith, omega arith)
-low isCut h = absurd (h refl)
-low notAllowed h = (omega arith, omega arith)
-low tooDeep h = (omega arith, omega arith)
-low tooMany h = (omega arith, omega arith)
-low extra h = (omega arith, omega arith)
+-- the refusals of a program that is cut, or is read to its end; 0 is none
+abbrev elsewhere : ℕ → Bool
+elsewhere n = eqb n cutNumber || (eqb n astray || (eqb n overMemory || eqb n 0))
 
-abbrev refusal : Acceptance → ℕ
-refusal a = a .refusal
+not-elsewhere : (w : Wrong) → (w ≡ isCut → ⊥) → elsewhere (refusalFor w) ≡ false
+not-elsewhere malformed h = refl
+not-elsewhere isCut h = absurd (h refl)
+not-elsewhere notAllowed h = refl
+not-elsewhere tooDeep h = refl
+not-elsewhere tooMany h = refl
+not-elsewhere extra h = refl
 
 module _ (u v : List ℕ) (w : Wrong) (at : ℕ) (other : w ≡ isCut → ⊥) (r : accepted u ≡ refused (refusalFor w) at) where
+  not-so : {a : Acceptance} → accepted u ≡ a → elsewhere (a .refusal) ≡ true → ⊥
+  not-so e z = never (sym z ∙ ap (λ (a : Acceptance). elsewhere (a .refusal)) (sym e ∙ r) ∙ not-elsewhere w other)
+
   stays-at : (l : List Item) (q : Spot) (i : Item) (x : Wrong) → Passes u front l q → turnAt u q ≡ stops i → i .found ≡ wrong x → Stopped u v q i (turnAt (u ++ v) q)
       → accepted (u ++ v) ≡ refused (refusalFor w) at
   stays-at l q i x a e f (same g) = refused-at (u ++ v) x (pass-on u v a) g f ∙ sym (refused-at u x a e f) ∙ r
-  stays-at l q i x a e f (longer c h b) =
-      let z : cutNumber ≡ refusalFor w = ap refusal (sym (refused-at u isCut a e c) ∙ r) in
-      absurd (omega (arith, low w other .1))
+  stays-at l q i x a e f (longer c h b) = absurd (not-so (refused-at u isCut a e c) refl)
 
   -- where u is read to its end, it is refused with 3 or 4 or not at all
   not-read : every fares (numbersIn u) ≡ true → Accepting (numbersIn u) (accepted u) → ⊥
   not-read g (row-stops before after i x h k f e) = one-wrong before after i (ap (every fares) (sym h) ∙ g) (ap isGood f)
-  not-read g (strays before after i k h t f e) = omega (arith, low w other .1, ap refusal (sym e ∙ r))
-  not-read g (overflows k t m e) = omega (arith, low w other .1, ap refusal (sym e ∙ r))
-  not-read g (passes k t m e) = omega (arith, low w other .0, ap refusal (sym e ∙ r))
+  not-read g (strays before after i k h t f e) = not-so e refl
+  not-read g (overflows k t m e) = not-so e refl
+  not-read g (passes k t m e) = not-so e refl
 
   wrong-stays : Walk u → accepted (u ++ v) ≡ refused (refusalFor w) at
   wrong-stays (halted l q i x a e f) = stays-at l q i x a e f (turned-on u v q e)

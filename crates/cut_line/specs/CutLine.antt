@@ -17,6 +17,7 @@ use Rattle.order.specs.Acceptance.{refusalFor, fares}
 abbrev pub CanBeRead : List ℕ → Type 0
 CanBeRead s = every fares (numbersIn s) ≡ true
 
+-- a number that begins behind a place
 abbrev pub beginsBehind : ℕ → Item → Bool
 beginsBehind n i = ltb n (i .place)
 
@@ -30,7 +31,8 @@ pub data ToldAsCut (s u : List ℕ) : Type 0 where
 pub record CutLine : Type 0 where
   -- "a number cut by the end of the data becomes 8": a program that can be read, and was cut anywhere, is refused with 8
   pub cut : (u v : List ℕ) → CanBeRead (u ++ v) → 0 < length v → ToldAsCut (u ++ v) u
-  -- whatever else is wrong with a number, no bytes that follow mend it: a program refused with 1 is no beginning of one that can be read
+  -- whatever else is wrong, no bytes that follow mend it: what is refused with 1 or 2 is refused so, at the same place, whatever follows; so it is
+  -- no beginning of a program that can be read
   pub stays : (u v : List ℕ) (w : Wrong) (at : ℕ) → (w ≡ isCut → ⊥) → accepted u ≡ refused (refusalFor w) at → accepted (u ++ v) ≡ refused (refusalFor w) at
   -- "at one place the two cannot both apply"
   pub apart : (k : ℕ) (s : List ℕ) (at : ℕ) → IsCut k s at → IsBad k s at → ⊥

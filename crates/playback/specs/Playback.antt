@@ -14,7 +14,7 @@ use Rattle.calls.specs.Calls.{scanOf}
 use Rattle.recording.specs.Recording.{Part, whole, bad, cut, lengthIn, scanAt}
 
 -- What a scan came to, or the program: the scan was run, with its inputs and its answer; "A refusal"; "A scan .. malformed or out of range"; one that is
--- "cut"; "A length malformed or over 16,384"; or "too few bytes". All but the first "ends the run". L2: "Everything that reads numbers passes the
+-- "cut"; "A length malformed or over 16,384"; or "too few bytes". Each but the first "ends the run". L2: "Everything that reads numbers passes the
 -- difference on", though document 01 has the same line for what is bad and for what is cut.
 pub data Came : Type 0 where
   ran : Inputs → Scanned → Came
@@ -113,7 +113,7 @@ fed opening l = openedTo l (openingIn l)
 fed (playing program st) l = played program st l
 fed over l = pausing over []
 
--- where no bytes follow: "too few bytes" are no program, and what is left of a scan is "cut"
+-- where no bytes follow: "too few bytes", of the length too, are a program that is cut, and what is left of a scan is "cut"
 abbrev pub finished : Stage → List ℕ → List Came
 finished opening l = cutProgram ∷ []
 finished (playing program st) [] = []

@@ -1,6 +1,6 @@
 -- A number of some bytes, and of these with more behind them: what is not cut stays as it is, and what is cut, if it is a number
--- then, ends among the more. By induction on the number of groups. Assumes nothing.
-use Prim.Native.Nat.{ℕ, zero, suc, _+_, _%_, _<_, _≤_}
+-- then, ends among these. By induction on the number of groups. Assumes nothing.
+use Prim.Native.Nat.{ℕ, zero, suc, _+_, _%_, _<_}
 use mathlib.Core.Path.{_≡_, refl, sym}
 use mathlib.Core.Bool.{Bool, true, false}
 use mathlib.Core.List.{List, _++_}
