@@ -21,7 +21,7 @@ use Rattle.program.proofs.FirstReading.{every-marked}
 use Rattle.order.specs.Order.{Wrong, malformed, isCut, notAllowed, tooDeep, tooMany, extra, Found, good, wrong, Item, Spot}
 use Rattle.order.specs.Order.{Turn, goes, stops, ends, turnAt, numbersFrom, front, numbersIn}
 use Rattle.order.specs.Acceptance.{refusalFor, isGood, fares, Accepting, stops as row-stops, strays, overflows, passes}
-use Rattle.order.proofs.Passes.{one-wrong, Passes, stop-wrong, all-good, grows, whole, not-all-good, behind}
+use Rattle.order.proofs.Passes.{one-wrong, Passes, stop-wrong, all-good, grows, whole, ends-wrong, not-all-good, behind}
 use Rattle.order.proofs.Comes.{at-wrong, at-astray, at-both, Comes, reads, halts}
 use Rattle.order.proofs.Programs.{Whole, program-comes}
 use Rattle.order.proofs.Orders.{in-order}
@@ -51,8 +51,7 @@ walk s = walked s (programAt everyBlock s) (program-comes everyBlock s)
 refused-at : (s : List ℕ) {l : List Item} {q : Spot} {i : Item} (w : Wrong) → Passes s front l q → turnAt s q ≡ stops i → i .found ≡ wrong w
     → accepted s ≡ refused (refusalFor w) (i .place)
 refused-at s {l} {q} {i} w a e x =
-    let n : numbersIn s ≡ l ++ (i ∷ []) = whole s a ∙ rw e in
-    sym (in-order s (refused (refusalFor w) (i .place)) .1 (row-stops l [] i w n (all-good s a) x refl))
+    sym (in-order s (refused (refusalFor w) (i .place)) .1 (row-stops l [] i w (ends-wrong s a e) (all-good s a) x refl))
 
 -- ---- a cut program
 
@@ -61,7 +60,7 @@ module _ (u v : List ℕ) (readable : CanBeRead (u ++ v)) (some : 0 < length v) 
   at-cut : (l : List Item) (q : Spot) → Passes u front l q → accepted u ≡ refused cutNumber (q .at) → (t : Turn) → turnAt (u ++ v) q ≡ t → Beyond u v q t → ToldAsCut (u ++ v) u
   at-cut l q a r (goes j o) e b =
       told-at l (numbersFrom (length (u ++ v) - length l) (u ++ v) o) j (whole (u ++ v) (pass-on u v a) ∙ rw e) (omega (arith, b .0, grows u a (omega arith) .1))
-      (behind (u ++ v) (length (u ++ v) - length l) (length u) o (b .1)) (r ∙ rw (b .0))
+      (behind (u ++ v) (length (u ++ v) - length l) (length u) o (b .1)) (r ∙ ap (refused cutNumber) (sym (b .0)))
   at-cut l q a r (stops j) e b = absurd (not-all-good (u ++ v) (pass-on u v a) e readable)
   at-cut l q a r ends e b = absurd b
 

@@ -18,7 +18,7 @@ use Rattle.program.proofs.Marks.{marked-bits, marked-words}
 use Rattle.order.specs.Order.{Item, Spot, goes, stops, ends, turnAt, numbersFrom, front, numbersIn}
 use Rattle.order.specs.Acceptance.{kindsIn, isThere, fares, InOrder}
 use Rattle.order.proofs.Rows.{none, first, firstNot, none-fails, fails-at, refusalOf, byReferences, acceptedBy, rows}
-use Rattle.order.proofs.Passes.{stop-wrong, all-good, whole, not-all-good}
+use Rattle.order.proofs.Passes.{stop-wrong, all-good, whole, not-all-good, ends-wrong}
 use Rattle.order.proofs.Comes.{marks, Way, at-wrong, at-astray, at-both, Comes, reads, halts}
 use Rattle.order.proofs.Programs.{Whole, program-comes}
 
@@ -39,8 +39,7 @@ module _ (s : List ℕ) where
       → acceptedBy (numbersIn s) ≡ refused (refusalOf (i .found)) (i .place)
   unfolding acceptedBy
   stopped {l} {q} {i} w e =
-      let n : numbersIn s ≡ l ++ (i ∷ []) = whole s (w .passes) ∙ rw e in
-      rw (n, fails-at fares l i [] (all-good s (w .passes)) (stop-wrong s q e))
+      rw (ends-wrong s (w .passes) e, fails-at fares l i [] (all-good s (w .passes)) (stop-wrong s q e))
 
   module _ (p : Program) (end : ℕ) (l : List Item) (q : Spot) (w : Way everyBlock s front l q) (u : Whole everyBlock s p l q)
       (r : programAt everyBlock s ≡ got p end) where

@@ -88,11 +88,13 @@ module _ (s : List ℕ) where
       let z : suc (length s) ≡ length l + suc (length s - length l) = omega arith in
       ap (λ (n : ℕ). numbersFrom n s front) z ∙ run a (suc (length s - length l))
 
-  -- and where the list stops at a wrong number, it is not all good
+  -- where it stops at a wrong number, it ends with that,
+  pub ends-wrong : {q : Spot} {l : List Item} {i : Item} → Passes front l q → turnAt s q ≡ stops i → numbersIn s ≡ l ++ (i ∷ [])
+  ends-wrong a e = whole a ∙ rw e
+
+  -- and is not all good
   pub not-all-good : {q : Spot} {l : List Item} {i : Item} → Passes front l q → turnAt s q ≡ stops i → every fares (numbersIn s) ≡ true → ⊥
-  not-all-good {q} {l} {i} a e g =
-      let n : numbersIn s ≡ l ++ (i ∷ []) = whole a ∙ rw e in
-      one-wrong l [] i (sym (ap (every fares) n) ∙ g) (stop-wrong q e)
+  not-all-good {q} {l} {i} a e g = one-wrong l [] i (sym (ap (every fares) (ends-wrong a e)) ∙ g) (stop-wrong q e)
 
   -- the numbers from a spot on stand there or behind
   behind-turn : (k : ℕ) (p : Spot) (rest : Spot → List Item) → k < p .at → (t : Turn) → Fair p t
