@@ -1,4 +1,4 @@
-/* The controller of document 01 with request L2, read a second time.
+/* The controller of document 01 with requests L2 and L3, read a second time.
  *
  * Four calls: accept, fresh, scan, take.  They keep no memory of their own
  * and answer for any content: any bytes of any length, any state, any inputs.

@@ -1,5 +1,6 @@
-/* Runs the examples of document 01 on the controller, then numbers that are cut
- * and badly formed, as request L2 tells them apart, then odd content. */
+/* Runs the examples of document 01 on the controller, numbers that are cut and
+ * badly formed, as request L2 tells them apart, delays in every way that request
+ * L3 leaves them, then odd content. */
 #include <stdio.h>
 #include <stdlib.h>
 #include <string.h>
@@ -337,7 +338,7 @@ static void test_cut(void)
 
 static void test_kinds(void)
 {
-    static const bool p9[] = {false, false, true, true};
+    static const bool p9[] = {false, false, false, true};
     static const bool p10[] = {true, false, false, true};
     static const bool p13[] = {true, true, false, false};
     static const int16_t p13_x[] = {10, 4, 3, 9};
@@ -391,6 +392,220 @@ static void test_kinds(void)
         oracle_scan(p.bytes, p.length, &state, 1, 0, words);
         CHECK("P13", state.places[0].output == p13[i]);
     }
+}
+
+/* The pins of a DL as they are stored; BEYOND are the two bits that are none. */
+enum { NONE = 0, I = 1, C = 2, BEYOND = 12 };
+
+/* A program of one DL whose pins are the input bits 0 and 1. */
+static void put_delay(program *p, uint32_t unit, uint32_t on, uint32_t off)
+{
+    p->length = 0;
+    PUT(p, 1, 4, 2, 3, unit, on, off, 0);
+}
+
+/* The record that a scan of this DL leaves from the given one. */
+static oracle_place after_scan(const program *p, oracle_place place, uint16_t elapsed,
+                               unsigned now)
+{
+    oracle_state state;
+    oracle_answer s;
+
+    oracle_fresh(&state);
+    state.places[0] = place;
+    s = oracle_scan(p->bytes, p->length, &state, elapsed, now, NO_WORDS);
+    CHECK("DL", s.refusal == 0 && s.steps == 1);
+    CHECK("DL stores its pins", state.places[0].pins == now);
+    CHECK("DL keeps its word", state.places[0].word == place.word);
+    return state.places[0];
+}
+
+/* Single scans of a DL with on 50, off 20: the record given, the scan, and the
+ * record that the paper asks for. */
+static void test_delay_scans(void)
+{
+    static const struct {
+        const char *name;
+        unsigned last;
+        bool was;
+        uint32_t ticks;
+        uint16_t elapsed;
+        unsigned now;
+        bool is;
+        uint32_t left;
+    } rows[] = {
+        {"DL grows", I, false, 0, 20, I, false, 20},
+        {"DL grows", NONE, true, 0, 19, NONE, true, 19},
+        {"DL grows by 0", I, false, 49, 0, I, false, 49},
+        {"DL just not reached", I, false, 29, 20, I, false, 49},
+        {"DL reached", I, false, 30, 20, I, true, 0},
+        {"DL reached", NONE, true, 0, 20, NONE, false, 0},
+        {"DL passed", I, false, 31, 20, I, true, 0},
+        {"DL passed in one scan", I, false, 0, 65535, I, true, 0},
+        {"DL given at its time", I, false, 50, 0, I, true, 0},
+        {"DL given past it", I, false, 6553399, 0, I, true, 0},
+        {"DL given past it", NONE, true, 6553399, 65535, NONE, false, 0},
+
+        {"DL I rises", NONE, false, 0, 65535, I, false, 0},
+        {"DL I rises", NONE, false, 49, 1, I, false, 0},
+        {"DL I rises, given past it", NONE, false, 6553399, 65535, I, false, 0},
+        {"DL I falls", I, true, 0, 65535, NONE, true, 0},
+        {"DL I falls", I, true, 19, 1, NONE, true, 0},
+        {"DL I falls, given past it", I, true, 6553399, 0, NONE, true, 0},
+
+        {"DL I as the output", NONE, false, 7, 9, NONE, false, 0},
+        {"DL I as the output", I, true, 7, 9, I, true, 0},
+        {"DL I as the output again", I, false, 7, 9, NONE, false, 0},
+        {"DL I as the output again", NONE, true, 7, 9, I, true, 0},
+
+        {"DL C falls", I | C, false, 0, 65535, I, false, 0},
+        {"DL C falls", I | C, false, 49, 1, I, false, 0},
+        {"DL C falls", C, true, 19, 1, NONE, true, 0},
+        {"DL C falls, I as the output", C, false, 7, 9, NONE, false, 0},
+        {"DL C falls, I rises", C, false, 49, 65535, I, false, 0},
+        {"DL C falls, I falls", I | C, true, 19, 65535, NONE, true, 0},
+
+        {"DL C rises", I, true, 7, 9, I | C, false, 0},
+        {"DL C rises", I, false, 49, 65535, I | C, false, 0},
+        {"DL C rises, I falls", I, true, 19, 65535, C, false, 0},
+        {"DL C held", I | C, true, 6553399, 65535, I | C, false, 0},
+        {"DL C held, I rises", C, false, 49, 65535, I | C, false, 0},
+
+        {"DL no change beyond", 4 | I, false, 30, 20, I, true, 0},
+        {"DL no change beyond", 8 | I, false, 29, 20, I, false, 49},
+        {"DL no change beyond", BEYOND, true, 0, 20, NONE, false, 0},
+        {"DL I rises, bits beyond", BEYOND, false, 49, 65535, I, false, 0},
+        {"DL C falls, bits beyond", BEYOND | I | C, false, 49, 65535, I, false, 0},
+    };
+    static program p;
+    size_t i;
+
+    put_delay(&p, 0, 50, 20);
+    for (i = 0; i < sizeof rows / sizeof rows[0]; i++) {
+        oracle_place place = {rows[i].ticks, -9, (uint8_t)rows[i].last, rows[i].was};
+
+        place = after_scan(&p, place, rows[i].elapsed, rows[i].now);
+        CHECK(rows[i].name, place.output == rows[i].is);
+        CHECK(rows[i].name, place.ticks == rows[i].left);
+    }
+}
+
+/* Whether a DL left what it has to, the paper's sentences one after the other. */
+static bool delay_right(const oracle_place *before, const oracle_place *after, unsigned now,
+                        uint16_t elapsed, uint64_t on, uint64_t off)
+{
+    bool i = now % 2 != 0, last_i = before->pins % 2 != 0;
+    bool c = now / 2 != 0, last_c = before->pins / 2 % 2 != 0;
+    uint64_t time = i ? on : off;
+
+    if (c)
+        return !after->output && after->ticks == 0;
+    if (i == before->output)
+        return after->output == i && after->ticks == 0;
+    if (time == 0)
+        return after->output == i && after->ticks == 0;
+    if (i != last_i || c != last_c)
+        return after->output != i && after->ticks == 0;
+    if (before->ticks + (uint64_t)elapsed >= time)
+        return after->output == i && after->ticks == 0;
+    return after->output != i && after->ticks == before->ticks + elapsed;
+}
+
+/* A DL from every last pins and output of a good state, with every pins now. */
+static void check_delay(const program *p, uint32_t ticks, uint16_t elapsed, uint32_t on,
+                        uint32_t off)
+{
+    unsigned n;
+
+    for (n = 0; n < 16 * 2 * 4; n++) {
+        oracle_place before = {ticks, 5, n % 16, n / 16 % 2};
+        oracle_place after = after_scan(p, before, elapsed, n / 32);
+
+        CHECK("DL at its bounds", delay_right(&before, &after, n / 32, elapsed, on, off));
+    }
+}
+
+/* Times with each unit, elapsed and ticks, all at their bounds. */
+static void test_delay_bounds(void)
+{
+    static const uint32_t times[] = {0, 1, 32767};
+    static const uint32_t units[] = {1, 10, 100};
+    static const uint16_t elapsed[] = {0, 1, 65535};
+    static program p;
+    unsigned n, k;
+
+    for (n = 0; n < 3 * 3 * 3 * 3; n++) {
+        uint32_t unit = n % 3;
+        uint32_t on = times[n / 3 % 3], off = times[n / 9 % 3];
+        uint16_t e = elapsed[n / 27];
+        uint32_t on_ticks = on * units[unit], off_ticks = off * units[unit];
+        const uint32_t ticks[] = {
+            0, 1, on_ticks - e - 1, on_ticks - e, on_ticks - e + 1, on_ticks,
+            off_ticks - e - 1, off_ticks - e, off_ticks - e + 1, off_ticks, 6553398, 6553399
+        };
+
+        put_delay(&p, unit, on, off);
+        for (k = 0; k < sizeof ticks / sizeof ticks[0]; k++)
+            if (ticks[k] <= 6553399) /* not below 0 */
+                check_delay(&p, ticks[k], e, on_ticks, off_ticks);
+    }
+}
+
+/* A scan of a run, and what it leaves. */
+typedef struct {
+    uint16_t elapsed;
+    unsigned now;
+    bool output;
+    uint32_t ticks;
+} delay_scan;
+
+static void run_delay(const char *name, const program *p, const delay_scan *scans, size_t count)
+{
+    oracle_place place = {0, 0, 0, false};
+
+    while (count-- > 0) {
+        place = after_scan(p, place, scans->elapsed, scans->now);
+        CHECK(name, place.output == scans->output && place.ticks == scans->ticks);
+        scans++;
+    }
+}
+
+#define RUN_DELAY(name, p, ...) \
+    run_delay((name), (p), (const delay_scan[]){__VA_ARGS__}, \
+              sizeof((const delay_scan[]){__VA_ARGS__}) / sizeof(delay_scan))
+
+/* Delays from fresh, scan after scan. */
+static void test_delay_runs(void)
+{
+    static program p;
+
+    put_delay(&p, 0, 50, 20);
+    RUN_DELAY("the request's 400 ms", &p, {40, I, false, 0}, {10, I, false, 10},
+              {39, I, false, 49}, {1, I, true, 0}, {1, I, true, 0});
+    RUN_DELAY("I back before the time", &p, {49, I, false, 0}, {49, I, false, 49},
+              {49, NONE, false, 0}, {49, I, false, 0}, {49, I, false, 49}, {0, I, false, 49},
+              {1, I, true, 0}, {19, NONE, true, 0}, {19, NONE, true, 19}, {1, I, true, 0},
+              {19, NONE, true, 0}, {19, NONE, true, 19}, {1, NONE, false, 0});
+    RUN_DELAY("C on the way, and its fall", &p, {50, I, false, 0}, {49, I, false, 49},
+              {9, I | C, false, 0}, {65535, I, false, 0}, {49, I, false, 49}, {1, I, true, 0},
+              {0, I | C, false, 0}, {0, I, false, 0}, {50, I, true, 0});
+    RUN_DELAY("I on while held cleared: one change", &p, {5, C, false, 0},
+              {65535, I | C, false, 0}, {65535, I | C, false, 0}, {65535, I, false, 0},
+              {50, I, true, 0});
+    RUN_DELAY("I on in the scan of the release: one change", &p, {5, C, false, 0},
+              {65535, I, false, 0}, {50, I, true, 0});
+    RUN_DELAY("fresh with I off: no change", &p, {65535, NONE, false, 0},
+              {65535, I, false, 0}, {65535, I, true, 0});
+    put_delay(&p, 2, 0, 0);
+    RUN_DELAY("times of 0", &p, {0, I, true, 0}, {65535, NONE, false, 0}, {65535, I, true, 0},
+              {0, I | C, false, 0}, {0, I, true, 0}, {0, C, false, 0}, {0, I, true, 0},
+              {0, NONE, false, 0});
+    put_delay(&p, 0, 0, 1);
+    RUN_DELAY("off time only", &p, {0, I, true, 0}, {65535, NONE, true, 0},
+              {0, NONE, true, 0}, {1, NONE, false, 0});
+    put_delay(&p, 0, 1, 0);
+    RUN_DELAY("on time only", &p, {65535, I, false, 0}, {0, I, false, 0}, {1, I, true, 0},
+              {0, NONE, false, 0});
 }
 
 /* All 32 alarms on, off, on; one take, off, on. */
@@ -538,6 +753,9 @@ int main(void)
     test_prefixes();
     test_cut();
     test_kinds();
+    test_delay_scans();
+    test_delay_bounds();
+    test_delay_runs();
     test_journal();
     test_states();
     test_any_content();
