@@ -96,11 +96,11 @@ CHUTES = sum(1 << i for i in range(4, 32))
 SCANS = (
     [scan(50, RUN, [200])] * 2  # the belts start
     + [scan(50, RUN | COVERED, [300])] * 3  # a parcel stands in the barrier,
-    + [scan(20, RUN | COVERED, [300])] * 6  # for 2 s: a jam; half a second later the second belt stops too
+    + [scan(25, RUN | COVERED, [300])] * 7  # for 2 s: a jam; half a second later the second belt stops too
     + [scan(50, RUN | BUTTON, [200])]  # the parcel is taken off, the button pressed
     + [scan(50, RUN, [450])] * 2  # a heavy load
     + [scan(50, RUN, [200])]
-    + [scan(100, RUN | COVERED, [200])] * 3  # the second jam of the shift
+    + [scan(100, RUN | COVERED, [200])] * 4  # the second jam of the shift, and a scan later the second belt stops
     + [scan(100, RUN | CHUTES, [200])]  # a dip of the supply: every chute reports full,
     + [scan(100, RUN, [200])]  # for a second,
     + [scan(100, RUN | CHUTES, [200])]  # and again

@@ -15,9 +15,9 @@ scans=$(mktemp)
 trap 'rm -f "$scans"' EXIT
 tail -c +90 examples/hall >"$scans"
 long() { for _ in $(seq "$1"); do cat "$scans"; done; }
-{ cat examples/hall; long 660; } >"$crate/data/long"
-{ cat examples/hall; long 130; head -c 20 "$scans"; } >"$crate/data/long_cut"
-{ cat examples/hall; long 130; printf '\200\000'; long 1; } >"$crate/data/long_bad"
+{ cat examples/hall; long 607; } >"$crate/data/long"
+{ cat examples/hall; long 120; head -c 20 "$scans"; } >"$crate/data/long_cut"
+{ cat examples/hall; long 120; printf '\200\000'; long 1; } >"$crate/data/long_bad"
 LC_ALL=C ls "$crate/data" >"$crate/args"
 while read -r name; do
     echo "== $name"
