@@ -80,6 +80,14 @@ static const char *const WAY_NAMES[WAYS] = {
     X(DL_BROKEN_OFF, "DL under way, then I as the output again") \
     X(DL_ON, "DL on time reached") \
     X(DL_OFF, "DL off time reached") \
+    X(DL_I_CHANGES, "DL I changes, nothing grows") \
+    X(DL_C_FALLS, "DL C falls, nothing grows") \
+    X(DL_BOTH_CHANGE, "DL I changes and C falls, nothing grows") \
+    X(DL_NOT_EARLY, "DL a pin changes, elapsed alone would reach the time") \
+    X(DL_DROPS, "DL a pin changes, ticks that were there become 0") \
+    X(DL_I_AT_ONCE, "DL I changes, time 0 reached") \
+    X(DL_C_AT_ONCE, "DL C falls, time 0 reached") \
+    X(DL_BEYOND, "DL no pin changes, though bits 2 or 3 were on") \
     X(OS_CLEARED, "OS cleared while on") \
     X(OS_STARTS, "OS starts") \
     X(OS_RUNS, "OS under way") \
@@ -412,16 +420,28 @@ static void see_al(const view *v)
 static void see_dl(view *v)
 {
     bool clear = v->now & 2, input = v->now & 1;
-    uint32_t ticks = v->before->ticks[v->block];
+    unsigned changed = (v->last ^ v->now) & 3;
+    uint32_t ticks = v->before->ticks[v->block], elapsed = v->given->elapsed;
+    uint32_t unit = next_unit(v);
+    uint32_t on = next_number(v) * unit;
+    uint32_t off = next_number(v) * unit;
+    uint32_t time = input ? on : off;
+    bool due = !clear && input != v->was; /* the output is to follow I */
+    bool timed = due && time > 0;
 
-    next_number(v);
-    next_number(v);
-    next_number(v);
     note(DL_CLEARED, clear && v->was);
     note(DL_GROWS, !clear && v->after->ticks[v->block] > ticks);
     note(DL_BROKEN_OFF, !clear && input == v->was && ticks > 0);
     note(DL_ON, !clear && !v->was && v->is);
     note(DL_OFF, !clear && v->was && !v->is);
+    note(DL_I_CHANGES, timed && changed == 1 && elapsed > 0);
+    note(DL_C_FALLS, timed && changed == 2 && elapsed > 0);
+    note(DL_BOTH_CHANGE, timed && changed == 3 && elapsed > 0);
+    note(DL_NOT_EARLY, timed && changed && elapsed >= time);
+    note(DL_DROPS, timed && changed && ticks > 0);
+    note(DL_I_AT_ONCE, due && !timed && (changed & 1));
+    note(DL_C_AT_ONCE, due && !timed && (changed & 2));
+    note(DL_BEYOND, timed && !changed && v->last > 3 && ticks + elapsed > 0);
 }
 
 static void see_os(view *v)
