@@ -19,7 +19,8 @@ use Rattle.place.specs.declared.Place.{Place}
 use Rattle.place.specs.Places.{freshPlace}
 use Rattle.switches.specs.Switches.{bl, sr, pl, al}
 use Rattle.counters.specs.Counters.{cn, ud}
-use Rattle.analog.specs.Analog.{cp, zc, st}
+use Rattle.timing.proofs.Left.{most, Few, dl-few, os-few, fl-few}
+use Rattle.analog.specs.Analog.{cp, og, zc, st}
 use Rattle.terms.specs.Bits.{packed}
 use Rattle.rules.specs.Rules.{fieldOf, pinOf, wordOfField, Rule, rules, ruleOf, ruled}
 use Rattle.image.specs.State.{goodPlace}
@@ -27,7 +28,6 @@ use Rattle.scanning.specs.Scan.{Inputs, scanTo}
 use Rattle.terms.proofs.Every.{both-hold, every-at, every-replicate, every-set}
 use Rattle.promises.proofs.ReadPrograms.{Row, Rows, setting-below, period-some}
 use Rattle.promises.proofs.EachKind.{Each, _also_, done, of-each}
-use Rattle.promises.proofs.Ticks.{most, Few, dl-few, os-few, fl-few, og-few}
 
 -- at most four pins are at most 15
 bit-most : (b : Bool) → pick b 1 0 ≤ 1
@@ -50,6 +50,11 @@ stores-good l o t w n h = both-hold (le-leb t most h) (le-leb (packed l) 15 (ome
 bl-good : (value : Bool) (p : Place) → goodPlace p ≡ true → goodPlace (bl value p) ≡ true
 unfolding bl goodPlace
 bl-good value p h = h
+
+-- OG, by its cases, leaves the ticks
+og-few : (i : Bool) (a b c x : ℤ) (p : Place) → Few p → Few (og i a b c x p)
+unfolding og
+og-few i a b c x p h = pick-case Few i (λ _. h) (λ _. h)
 
 -- the rules, one after the other in the order of the table
 module _ (cs : List Content) (pin : ℕ → Bool) (word : ℕ → ℤ) (e : ℕ) (p : Place) (h : goodPlace p ≡ true) where

@@ -1,6 +1,5 @@
 pub mod Refusals
 pub mod ReadPrograms
-pub mod Ticks
 pub mod EachKind
 pub mod GoodPlaces
 pub mod GoodJournal

@@ -1,15 +1,13 @@
 -- What a kind's rule does not set stays as it was. Assumes nothing.
-use Prim.Native.Nat.{ℕ, _+_}
+use Prim.Native.Nat.{ℕ}
 use mathlib.Core.Path.{_≡_, refl}
-use mathlib.Core.Bool.{Bool, false, Bool·beq}
-use lib.Dec.{leb}
+use mathlib.Core.Bool.{Bool, false}
 use lib.IntN.{ℤ}
-use Rattle.terms.specs.Choice.{pick}
 use Rattle.terms.proofs.Choice.{pick-case, never}
 use Rattle.kinds.specs.Kinds.{kindOf}
 use Rattle.place.specs.declared.Place.{Place}
 use Rattle.switches.specs.Switches.{bl, sr, pl, al}
-use Rattle.timers.specs.Timers.{ticksIn, dl, os, fl}
+use Rattle.timing.proofs.Left.{dl-word, os-word, fl-word}
 use Rattle.counters.specs.Counters.{cn, ud}
 use Rattle.analog.specs.Analog.{cp, og, zc, st}
 use Rattle.rules.specs.Rules.{Rule, rules, ruleOf}
@@ -57,19 +55,15 @@ module _ (pin : ℕ → Bool) (word : ℕ → ℤ) (set : ℕ → ℕ) (e : ℕ)
   Word-unset kind r = kindOf kind .hasWord ≡ false → Word-stays (r pin word set e p)
 
   word-unset : Each Word-unset 0 rules
-  unfolding kindOf bl sr pl al dl os fl cp zc st
+  unfolding kindOf bl sr pl al cp zc st
   word-unset =
       (λ _. refl)
       also (λ _. refl)
       also (λ _. refl)
       also (λ _. refl)
-      also (λ _. pick-case Word-stays (pin 1) (λ _. refl)
-      (λ _. pick-case Word-stays (Bool·beq (pin 0) (p .out)) (λ _. refl)
-      (λ _. pick-case Word-stays (leb (ticksIn (set 2) (pick (pin 0) (set 3) (set 4))) (p .ticks + e)) (λ _. refl) (λ _. refl))))
-      also (λ _. pick-case Word-stays (pin 1) (λ _. refl)
-      (λ _. pick-case Word-stays (p .out)
-      (λ _. pick-case Word-stays (leb (ticksIn (set 2) (set 3)) (p .ticks + e)) (λ _. refl) (λ _. refl)) (λ _. refl)))
-      also (λ _. pick-case Word-stays (pin 0) (λ _. refl) (λ _. refl))
+      also (λ _. dl-word (pin 0) (pin 1) (set 2) (set 3) (set 4) e p)
+      also (λ _. os-word (pin 0) (pin 1) (set 2) (set 3) e p)
+      also (λ _. fl-word (pin 0) (set 1) (set 2) (set 3) e p)
       also never
       also never
       also (λ _. refl)

@@ -1,18 +1,17 @@
--- The rules that set ticks leave few: 0, fewer than a time of at most 3,276,700 (DL, OS), or fewer than a period of at most twice that (FL);
--- and OG, by its cases, leaves the old ones. Assumes nothing.
+-- What the rules leave: few ticks, that is 0, fewer than a time of at most 3,276,700 (DL, OS), or fewer than a period of at most twice that (FL);
+-- and the word as it was.
 use Prim.Native.Nat.{ℕ, _+_, _≤_, _<_}
 use mathlib.Core.Bool.{Bool, Bool·beq}
+use mathlib.Core.Path.{_≡_, refl}
 use native.Mathlib.Omega.{arith}
 use native.Mathlib.Nat.{mod-lt}
 use lib.Dec.{leb}
-use lib.IntN.{ℤ}
 use borrow.Author.Tests.{leb-false}
 use Rattle.terms.specs.Choice.{pick}
 use Rattle.terms.proofs.Choice.{pick-case}
 use Rattle.place.specs.declared.Place.{Place}
 use Rattle.place.specs.Places.{firstWas, rises}
 use Rattle.timers.specs.Timers.{ticksIn, dl, os, fl, flTicks}
-use Rattle.analog.specs.Analog.{og}
 use Rattle.timers.proofs.Times.{ticks-least, ticks-most}
 
 -- "ticks over 6,553,399" are bad
@@ -51,6 +50,23 @@ fl-few i unit on off e p a b pos =
     omega (arith, mod-lt (p .ticks + e) period, ticks-most unit on, ticks-most unit off)))
     (λ _. omega arith)
 
-pub og-few : (i : Bool) (a b c x : ℤ) (p : Place) → Few p → Few (og i a b c x p)
-unfolding og
-og-few i a b c x p h = pick-case Few i (λ _. h) (λ _. h)
+abbrev Word-of : Place → Place → Type 0
+Word-of p q = q .word ≡ p .word
+
+pub dl-word : (i c : Bool) (unit on off e : ℕ) (p : Place) → Word-of p (dl i c unit on off e p)
+unfolding dl
+dl-word i c unit on off e p =
+    pick-case (Word-of p) c (λ _. refl)
+    (λ _. pick-case (Word-of p) (Bool·beq i (p .out)) (λ _. refl)
+    (λ _. pick-case (Word-of p) (leb (ticksIn unit (pick i on off)) (p .ticks + e)) (λ _. refl) (λ _. refl)))
+
+pub os-word : (i c : Bool) (unit time e : ℕ) (p : Place) → Word-of p (os i c unit time e p)
+unfolding os
+os-word i c unit time e p =
+    pick-case (Word-of p) c (λ _. refl)
+    (λ _. pick-case (Word-of p) (p .out)
+    (λ _. pick-case (Word-of p) (leb (ticksIn unit time) (p .ticks + e)) (λ _. refl) (λ _. refl)) (λ _. refl))
+
+pub fl-word : (i : Bool) (unit on off e : ℕ) (p : Place) → Word-of p (fl i unit on off e p)
+unfolding fl
+fl-word i unit on off e p = pick-case (Word-of p) i (λ _. refl) (λ _. refl)

@@ -1,0 +1,1 @@
+// What the rules of DL, OS and FL come to.
