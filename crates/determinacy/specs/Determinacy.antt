@@ -17,6 +17,7 @@ use Rattle.place.proofs.Place.pin.Reads as place-pin
 use Rattle.place.proofs.Place.first_rises.Reads as place-first-rises
 use Rattle.place.proofs.Place.first_falls.Reads as place-first-falls
 use Rattle.place.proofs.Place.second_rises.Reads as place-second-rises
+use Rattle.place.proofs.Place.either_differs.Reads as place-either-differs
 use Rattle.place.proofs.pack.Reads as place-pack
 use Rattle.switches.proofs.bl.Reads as switches-bl
 use Rattle.switches.proofs.sr.Reads as switches-sr
@@ -142,6 +143,7 @@ pub record Determinacy : Type 0 where
   pub place-first-rises : Determined place-first-rises.Learnt
   pub place-first-falls : Determined place-first-falls.Learnt
   pub place-second-rises : Determined place-second-rises.Learnt
+  pub place-either-differs : Determined place-either-differs.Learnt
   pub place-pack : Determined place-pack.Learnt
   pub switches-bl : Determined switches-bl.Learnt
   pub switches-sr : Determined switches-sr.Learnt

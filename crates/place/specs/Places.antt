@@ -1,6 +1,6 @@
 -- Document 01, "State" (a place), and what "One scan" says of last pins. A rule sees the values at its pins and words, its settings, the elapsed
 -- ticks E and its old place p, and nothing else. It leaves the last pins to `pinned`.
-use mathlib.Core.Bool.{Bool, false, not, _&&_}
+use mathlib.Core.Bool.{Bool, false, not, _&&_, _||_, Bool·beq}
 use Prim.Native.Nat.{ℕ, _/_, _%_}
 use lib.IntN.{ℤ, pos}
 use lib.Dec.{eqb}
@@ -39,3 +39,10 @@ rises isOn wasOn = isOn && not wasOn
 
 abbrev pub falls : Bool → Bool → Bool
 falls isOn wasOn = not isOn && wasOn
+
+-- L3: "I or C differs from its last pin", of the first two pins
+abbrev pub differs : Bool → Bool → Bool
+differs isOn wasOn = not (Bool·beq isOn wasOn)
+
+abbrev pub eitherDiffers : Bool → Bool → Place → Bool
+eitherDiffers first second p = differs first (firstWas p) || differs second (secondWas p)

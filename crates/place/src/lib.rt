@@ -2,7 +2,7 @@
 ghost use mathlib.Core.Path.{_≡_};
 ghost use mathlib.Core.List.{[], _∷_};
 ghost use Rattle.terms.specs.Bits.{packed};
-ghost use Rattle.place.specs.Places.{freshPlace, pinned, firstWas, secondWas, rises, falls};
+ghost use Rattle.place.specs.Places.{freshPlace, pinned, firstWas, secondWas, rises, falls, eitherDiffers};
 
 pub struct Place {
     pub pins: u8,
@@ -52,6 +52,16 @@ impl Place {
         ensures { λ r. ⌜ r ≡ rises «is_on» (secondWas self) ⌝ }
     {
         if is_on { self.pins / 2 % 2 != 1 } else { false }
+    }
+
+    // Whether the first or the second pin differs from its last.
+    pub fn either_differs(self, first: bool, second: bool) -> bool
+        ensures { λ r. ⌜ r ≡ eitherDiffers first second self ⌝ }
+    {
+        if first != (self.pins % 2 == 1) {
+            return true;
+        }
+        second != (self.pins / 2 % 2 == 1)
     }
 }
 

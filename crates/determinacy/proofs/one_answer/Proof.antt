@@ -90,6 +90,7 @@ all =
       place-first-rises = λ κ a x y u v h k. cc;
       place-first-falls = λ κ a x y u v h k. cc;
       place-second-rises = λ κ a x y u v h k. cc;
+      place-either-differs = λ κ a x y u v h k. cc;
       place-pack = λ κ a x y u v h k. cc;
       switches-bl = λ κ a x y u v h k. cc;
       switches-sr = λ κ a x y u v h k. cc;
