@@ -73,9 +73,9 @@ examples =
     ∷ accepting (p1 []) (refused 8 6)
     -- P8 AND(off, XOR(on, on)): off, 2 steps.
     ∷ running (numbers (1 ∷ 0 ∷ 1 ∷ (6 + 0) ∷ 3 ∷ (6 + 1) ∷ (6 + 1) ∷ 0 ∷ [])) (after 0 0 (pos 0) ∷ []) (seen false (pos 0) 2 ∷ [])
-    -- P9 DL on 50, unit 0, I on, E 20: on in the third scan.
-    ∷ running (numbers (1 ∷ 4 ∷ 1 ∷ 0 ∷ 0 ∷ 50 ∷ 0 ∷ 0 ∷ [])) (replicate 3 (after 20 0 (pos 0)))
-    (seen false (pos 0) 1 ∷ seen false (pos 0) 1 ∷ seen true (pos 0) 1 ∷ [])
+    -- P9 DL on 50, unit 0, I on, E 20: on in the fourth scan (L3).
+    ∷ running (numbers (1 ∷ 4 ∷ 1 ∷ 0 ∷ 0 ∷ 50 ∷ 0 ∷ 0 ∷ [])) (replicate 4 (after 20 0 (pos 0)))
+    (seen false (pos 0) 1 ∷ seen false (pos 0) 1 ∷ seen false (pos 0) 1 ∷ seen true (pos 0) 1 ∷ [])
     -- P10 FL on 3, off 2, I on, E 4: on, off, off, on.
     ∷ running (numbers (1 ∷ 6 ∷ 1 ∷ 0 ∷ 3 ∷ 2 ∷ 0 ∷ [])) (replicate 4 (after 4 0 (pos 0)))
     (seen true (pos 0) 1 ∷ seen false (pos 0) 1 ∷ seen false (pos 0) 1 ∷ seen true (pos 0) 1 ∷ [])

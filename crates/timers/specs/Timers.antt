@@ -1,23 +1,27 @@
--- Document 01, "One scan": DL, OS, FL, in the paper's order and letters.
-use mathlib.Core.Bool.{Bool, true, false, Bool·beq}
+-- Document 01, "One scan": DL with request L3, OS, FL, in the paper's order and letters.
+use mathlib.Core.Bool.{Bool, true, false}
 use Prim.Native.Nat.{ℕ, _+_, _*_, _%_}
 use lib.Dec.{leb, ltb, eqb}
 use Rattle.terms.specs.Choice.{pick}
 use Rattle.place.specs.declared.Place.{Place}
-use Rattle.place.specs.Places.{timedTo, firstWas, rises}
+use Rattle.place.specs.Places.{timedTo, firstWas, rises, differs, eitherDiffers}
 
 -- "Unit: 0, 1, 2 for 1, 10, 100 ticks"; "each time is multiplied by its unit"
 unfoldable pub ticksIn : ℕ → ℕ → ℕ
 ticksIn unit time = time * pick (eqb unit 0) 1 (pick (eqb unit 1) 10 100)
 
--- "DL C on: off, ticks 0. Else if I differs from the output, ticks grow by E, and on reaching the on time (I on) or off time (I off)
--- the output follows I and ticks are 0. Else ticks 0. E counts in full in the scan of the change too."
+-- "DL C on: off, ticks 0. Else if I differs from the output, ticks grow by E, and on reaching the on time (I on) or off time (I off) the output
+-- follows I and ticks are 0. Else ticks 0." L3: "In DL, in a scan where I or C differs from its last pin, ticks become 0 and grow by nothing; a time
+-- of 0 still switches at once", in that scan too: ticks of 0 reach it.
+unfoldable pub dlTicks : Bool → Bool → ℕ → Place → ℕ
+dlTicks i c e p = pick (eitherDiffers i c p) 0 (p .ticks + e)
+
 unfoldable pub dl : Bool → Bool → ℕ → ℕ → ℕ → ℕ → Place → Place
 dl i c unit on off e p =
     pick c (timedTo false 0 p)
-    (pick (Bool·beq i (p .out)) (timedTo (p .out) 0 p)
-    (pick (leb (ticksIn unit (pick i on off)) (p .ticks + e)) (timedTo i 0 p)
-    (timedTo (p .out) (p .ticks + e) p)))
+    (pick (differs i (p .out))
+    (pick (leb (ticksIn unit (pick i on off)) (dlTicks i c e p)) (timedTo i 0 p) (timedTo (p .out) (dlTicks i c e p) p))
+    (timedTo (p .out) 0 p))
 
 -- "OS C on: off, ticks 0. Else if output on: ticks + E; on reaching the time off, ticks 0. Else a rise of I turns it on, ticks 0;
 -- no rise: off, ticks 0. A rise while on is lost."

@@ -3,7 +3,7 @@ use place::Place;
 ghost use mathlib.Core.Path.{_≡_};
 ghost use Prim.Native.Nat.{_+_, _<_, _≤_};
 ghost use Rattle.terms.specs.Choice.{pick};
-ghost use Rattle.timers.specs.Timers.{ticksIn, dl, os, fl};
+ghost use Rattle.timers.specs.Timers.{ticksIn, dlTicks, dl, os, fl};
 
 // A time in ticks.
 fn ticks_in(unit: u32, time: u32) -> u64
@@ -25,6 +25,18 @@ fn time_of(i: bool, on: u32, off: u32) -> u32
     if i { on } else { off }
 }
 
+// The ticks of DL with E counted, or 0 in the scan of a change.
+fn dl_ticks(i: bool, c: bool, e: u16, p: Place) -> u64
+    ensures { λ r. ⌜ r ≡ dlTicks i c e p ⌝ }
+{
+    let kept = p.ticks as u64;
+    let grown = kept + (e as u64);
+    if p.either_differs(i, c) {
+        return 0;
+    }
+    grown
+}
+
 pub fn dl(i: bool, c: bool, unit: u32, on: u32, off: u32, e: u16, p: Place) -> Place
     requires { ⌜ (on ≤ 32767) × (off ≤ 32767) ⌝ }
     ensures { λ q. ⌜ q ≡ dl i c unit on off e p ⌝ }
@@ -39,7 +51,7 @@ pub fn dl(i: bool, c: bool, unit: u32, on: u32, off: u32, e: u16, p: Place) -> P
         q.ticks = 0;
         return q;
     }
-    let t = (p.ticks as u64) + (e as u64);
+    let t = dl_ticks(i, c, e, p);
     if ticks_in(unit, time_of(i, on, off)) <= t {
         q.out = i;
         q.ticks = 0;

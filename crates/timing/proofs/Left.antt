@@ -1,7 +1,7 @@
 -- What the rules leave: few ticks, that is 0, fewer than a time of at most 3,276,700 (DL, OS), or fewer than a period of at most twice that (FL);
 -- and the word as it was.
 use Prim.Native.Nat.{ℕ, _+_, _≤_, _<_}
-use mathlib.Core.Bool.{Bool, Bool·beq}
+use mathlib.Core.Bool.{Bool}
 use mathlib.Core.Path.{_≡_, refl}
 use native.Mathlib.Omega.{arith}
 use native.Mathlib.Nat.{mod-lt}
@@ -10,8 +10,8 @@ use borrow.Author.Tests.{leb-false}
 use Rattle.terms.specs.Choice.{pick}
 use Rattle.terms.proofs.Choice.{pick-case}
 use Rattle.place.specs.declared.Place.{Place}
-use Rattle.place.specs.Places.{firstWas, rises}
-use Rattle.timers.specs.Timers.{ticksIn, dl, os, fl, flTicks}
+use Rattle.place.specs.Places.{firstWas, rises, differs}
+use Rattle.timers.specs.Timers.{ticksIn, dlTicks, dl, os, fl, flTicks}
 use Rattle.timers.proofs.Times.{ticks-least, ticks-most}
 
 -- "ticks over 6,553,399" are bad
@@ -25,11 +25,12 @@ pub dl-few : (i c : Bool) (unit on off e : ℕ) (p : Place) → on < 32768 → o
 unfolding dl
 dl-few i c unit on off e p a b =
     pick-case Few c (λ _. omega arith)
-    (λ _. pick-case Few (Bool·beq i (p .out)) (λ _. omega arith)
-    (λ _. pick-case Few (leb (ticksIn unit (pick i on off)) (p .ticks + e)) (λ _. omega arith)
+    (λ _. pick-case Few (differs i (p .out))
+    (λ _. pick-case Few (leb (ticksIn unit (pick i on off)) (dlTicks i c e p)) (λ _. omega arith)
     (λ lt.
     let t = pick-case (λ n. n < 32768) i {x = on} {y = off} (λ _. a) (λ _. b) in
-    omega (arith, leb-false (ticksIn unit (pick i on off)) (p .ticks + e) lt, ticks-most unit (pick i on off)))))
+    omega (arith, leb-false (ticksIn unit (pick i on off)) (dlTicks i c e p) lt, ticks-most unit (pick i on off))))
+    (λ _. omega arith))
 
 pub os-few : (i c : Bool) (unit time e : ℕ) (p : Place) → time < 32768 → Few (os i c unit time e p)
 unfolding os
@@ -57,8 +58,8 @@ pub dl-word : (i c : Bool) (unit on off e : ℕ) (p : Place) → Word-of p (dl i
 unfolding dl
 dl-word i c unit on off e p =
     pick-case (Word-of p) c (λ _. refl)
-    (λ _. pick-case (Word-of p) (Bool·beq i (p .out)) (λ _. refl)
-    (λ _. pick-case (Word-of p) (leb (ticksIn unit (pick i on off)) (p .ticks + e)) (λ _. refl) (λ _. refl)))
+    (λ _. pick-case (Word-of p) (differs i (p .out))
+    (λ _. pick-case (Word-of p) (leb (ticksIn unit (pick i on off)) (dlTicks i c e p)) (λ _. refl) (λ _. refl)) (λ _. refl))
 
 pub os-word : (i c : Bool) (unit time e : ℕ) (p : Place) → Word-of p (os i c unit time e p)
 unfolding os

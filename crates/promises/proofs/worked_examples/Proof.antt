@@ -10,7 +10,7 @@ use Rattle.program.specs.Program.{alarmsAt, blocksAt, endAt, programAt, referen
 use Rattle.program.specs.Acceptance.{accepted, marksOf}
 use Rattle.expression.specs.Expression.{gateOf, skipsOf}
 use Rattle.switches.specs.Switches.{bl}
-use Rattle.timers.specs.Timers.{dl, fl, flTicks, ticksIn}
+use Rattle.timers.specs.Timers.{dlTicks, dl, fl, flTicks, ticksIn}
 use Rattle.terms.specs.Words.{holdWord}
 use Rattle.analog.specs.Analog.{og, same, scaled, st}
 use Rattle.counters.specs.Counters.{ud, udWord}
@@ -25,7 +25,7 @@ use Rattle.promises.proofs.worked_examples.Tie as tie
 
 all : AllShown examples
 unfolding groupsAt groupsOf numberAt allowed bitRef contentOf excepted saidBy figureFor kindOf markFor wordRef blockAt contentAt exprAt fieldsAt
-    headAt marked typedAt alarmsAt blocksAt endAt programAt referencesAt accepted marksOf gateOf skipsOf bl dl fl flTicks holdWord og same scaled st
+    headAt marked typedAt alarmsAt blocksAt endAt programAt referencesAt accepted marksOf gateOf skipsOf bl dlTicks dl fl flTicks holdWord og same scaled st
     ticksIn ud udWord ruleOf ruled empty freshJournal goodJournal noStamp numbered risen risesFrom storedAll freshState goodPlace goodState alarmWord
     scanTo stepsTo answered late scanOf seenIn
 all = (refl, (refl, (refl, (refl, (refl, (refl, (refl, (refl, (refl, (refl, (refl, (refl, (refl, tt)))))))))))))
