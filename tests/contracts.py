@@ -7,7 +7,7 @@ import sys
 
 CRATES = pathlib.Path('crates')
 # what answers nothing, or only reads and writes by the system
-NO_ANSWER = {'wire::number_facts', 'image::log_sized', 'image::columns_sized', 'grammar::one_reading', 'writing::read_back', 'typed::as_typed', 'order::in_order', 'cut_line::cut_or_bad', 'windows::any_windows', 'feeding::listed', 'reading::read_behind', 'stream::run', 'determinacy::one_answer'}
+NO_ANSWER = {'wire::number_facts', 'image::log_sized', 'image::columns_sized', 'grammar::one_reading', 'writing::read_back', 'typed::as_typed', 'order::in_order', 'cut_line::cut_or_bad', 'timing::on_time', 'windows::any_windows', 'feeding::listed', 'reading::read_behind', 'stream::run', 'determinacy::one_answer'}
 
 
 def libraries():
