@@ -1,6 +1,6 @@
 /* Runs the examples of document 01 on the controller, numbers that are cut and
- * badly formed, as request L2 tells them apart, delays in every way that request
- * L3 leaves them, then odd content. */
+ * badly formed, as request L2 tells them apart, delays at the bounds of request
+ * L3's rule, then odd content. */
 #include <stdio.h>
 #include <stdlib.h>
 #include <string.h>

@@ -1,4 +1,4 @@
--- Document 01, "State" (a place), and what "One scan" says of last pins. A rule sees the values at its pins and words, its settings, the elapsed
+-- Document 01, "State" (a place), and what "One scan" and L3 say of last pins. A rule sees the values at its pins and words, its settings, the elapsed
 -- ticks E and its old place p, and nothing else. It leaves the last pins to `pinned`.
 use mathlib.Core.Bool.{Bool, false, not, _&&_, _||_, Bool·beq}
 use Prim.Native.Nat.{ℕ, _/_, _%_}
@@ -40,9 +40,10 @@ rises isOn wasOn = isOn && not wasOn
 abbrev pub falls : Bool → Bool → Bool
 falls isOn wasOn = not isOn && wasOn
 
--- L3: "I or C differs from its last pin", of the first two pins
+-- "differs": I from the output, in DL, and a pin from its last, in L3
 abbrev pub differs : Bool → Bool → Bool
-differs isOn wasOn = not (Bool·beq isOn wasOn)
+differs a b = not (Bool·beq a b)
 
+-- L3: "I or C differs from its last pin"; they are the first two
 abbrev pub eitherDiffers : Bool → Bool → Place → Bool
 eitherDiffers first second p = differs first (firstWas p) || differs second (secondWas p)

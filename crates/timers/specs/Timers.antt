@@ -11,8 +11,8 @@ unfoldable pub ticksIn : ℕ → ℕ → ℕ
 ticksIn unit time = time * pick (eqb unit 0) 1 (pick (eqb unit 1) 10 100)
 
 -- "DL C on: off, ticks 0. Else if I differs from the output, ticks grow by E, and on reaching the on time (I on) or off time (I off) the output
--- follows I and ticks are 0. Else ticks 0." L3: "In DL, in a scan where I or C differs from its last pin, ticks become 0 and grow by nothing; a time
--- of 0 still switches at once", in that scan too: ticks of 0 reach it.
+-- follows I and ticks are 0. Else ticks 0." In place of its last sentence, "E counts in full in the scan of the change too.", stands L3: "In DL, in a
+-- scan where I or C differs from its last pin, ticks become 0 and grow by nothing; a time of 0 still switches at once." (Ticks of 0 reach it.)
 unfoldable pub dlTicks : Bool → Bool → ℕ → Place → ℕ
 dlTicks i c e p = pick (eitherDiffers i c p) 0 (p .ticks + e)
 

@@ -25,7 +25,7 @@ fn time_of(i: bool, on: u32, off: u32) -> u32
     if i { on } else { off }
 }
 
-// The ticks of DL with E counted, or 0 in the scan of a change.
+// The ticks of DL with E counted, or 0 in the scan of a change. `dl` asks for them only with C off; the letters are those of the definition.
 fn dl_ticks(i: bool, c: bool, e: u16, p: Place) -> u64
     ensures { λ r. ⌜ r ≡ dlTicks i c e p ⌝ }
 {

@@ -1,5 +1,5 @@
--- What the rules leave: few ticks, that is 0, fewer than a time of at most 3,276,700 (DL, OS), or fewer than a period of at most twice that (FL);
--- and the word as it was.
+-- What the rules of DL, OS and FL leave: few ticks, that is 0, fewer than a time of at most 3,276,700 (DL, OS), or fewer than a period of at most
+-- twice that (FL); and the word as it was. Assumes nothing.
 use Prim.Native.Nat.{ℕ, _+_, _≤_, _<_}
 use mathlib.Core.Bool.{Bool}
 use mathlib.Core.Path.{_≡_, refl}
@@ -51,23 +51,23 @@ fl-few i unit on off e p a b pos =
     omega (arith, mod-lt (p .ticks + e) period, ticks-most unit on, ticks-most unit off)))
     (λ _. omega arith)
 
-abbrev Word-of : Place → Place → Type 0
-Word-of p q = q .word ≡ p .word
+abbrev Word-stays : Place → Place → Type 0
+Word-stays p q = q .word ≡ p .word
 
-pub dl-word : (i c : Bool) (unit on off e : ℕ) (p : Place) → Word-of p (dl i c unit on off e p)
+pub dl-word : (i c : Bool) (unit on off e : ℕ) (p : Place) → Word-stays p (dl i c unit on off e p)
 unfolding dl
 dl-word i c unit on off e p =
-    pick-case (Word-of p) c (λ _. refl)
-    (λ _. pick-case (Word-of p) (differs i (p .out))
-    (λ _. pick-case (Word-of p) (leb (ticksIn unit (pick i on off)) (dlTicks i c e p)) (λ _. refl) (λ _. refl)) (λ _. refl))
+    pick-case (Word-stays p) c (λ _. refl)
+    (λ _. pick-case (Word-stays p) (differs i (p .out))
+    (λ _. pick-case (Word-stays p) (leb (ticksIn unit (pick i on off)) (dlTicks i c e p)) (λ _. refl) (λ _. refl)) (λ _. refl))
 
-pub os-word : (i c : Bool) (unit time e : ℕ) (p : Place) → Word-of p (os i c unit time e p)
+pub os-word : (i c : Bool) (unit time e : ℕ) (p : Place) → Word-stays p (os i c unit time e p)
 unfolding os
 os-word i c unit time e p =
-    pick-case (Word-of p) c (λ _. refl)
-    (λ _. pick-case (Word-of p) (p .out)
-    (λ _. pick-case (Word-of p) (leb (ticksIn unit time) (p .ticks + e)) (λ _. refl) (λ _. refl)) (λ _. refl))
+    pick-case (Word-stays p) c (λ _. refl)
+    (λ _. pick-case (Word-stays p) (p .out)
+    (λ _. pick-case (Word-stays p) (leb (ticksIn unit time) (p .ticks + e)) (λ _. refl) (λ _. refl)) (λ _. refl))
 
-pub fl-word : (i : Bool) (unit on off e : ℕ) (p : Place) → Word-of p (fl i unit on off e p)
+pub fl-word : (i : Bool) (unit on off e : ℕ) (p : Place) → Word-stays p (fl i unit on off e p)
 unfolding fl
-fl-word i unit on off e p = pick-case (Word-of p) i (λ _. refl) (λ _. refl)
+fl-word i unit on off e p = pick-case (Word-stays p) i (λ _. refl) (λ _. refl)

@@ -25,7 +25,14 @@ returns-3 c =
     let after-dl-ticks = after-time-of .before in
     let after-if2 = after-dl-ticks .before in
     let after-if1 = after-if2 .before .before in
-    rw (sym (after-dl-ticks .dl-ticks .ensures), after-if1 .if1 .left, after-if2 .if2 .left, sym (after-time-of .time-of .ensures), sym (c .before .ticks-in .ensures), le-leb _ _ (c .if3 .taken))
+    rw (
+      sym (after-dl-ticks .dl-ticks .ensures),
+      after-if1 .if1 .left,
+      after-if2 .if2 .left,
+      sym (after-time-of .time-of .ensures),
+      sym (c .before .ticks-in .ensures),
+      le-leb _ _ (c .if3 .taken),
+    )
 
 returns-4 : tie.Need-returns-4
 unfolding dl
@@ -34,7 +41,14 @@ returns-4 c =
     let after-dl-ticks = after-time-of .before in
     let after-if2 = after-dl-ticks .before in
     let after-if1 = after-if2 .before .before in
-    rw (sym (after-dl-ticks .dl-ticks .ensures), after-if1 .if1 .left, after-if2 .if2 .left, sym (after-time-of .time-of .ensures), sym (c .before .ticks-in .ensures), lt-leb _ _ (c .if3 .left))
+    rw (
+      sym (after-dl-ticks .dl-ticks .ensures),
+      after-if1 .if1 .left,
+      after-if2 .if2 .left,
+      sym (after-time-of .time-of .ensures),
+      sym (c .before .ticks-in .ensures),
+      lt-leb _ _ (c .if3 .left),
+    )
 
 pub dl-spec : {M : Type 1} → statement M
 dl-spec =
