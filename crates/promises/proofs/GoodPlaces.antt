@@ -1,6 +1,6 @@
 -- A place that passes the state check still does after the rule of any kind whose settings were read, and so do all places after a scan.
 -- Assumes nothing.
-use Prim.Native.Nat.{ℕ, zero, suc, _^_, _≤_, _<_}
+use Prim.Native.Nat.{ℕ, zero, suc, _+_, _^_, _≤_, _<_}
 use mathlib.Core.Path.{_≡_, refl}
 use mathlib.Core.Bool.{Bool, true}
 use mathlib.Core.List.{List, [], _∷_}
@@ -19,11 +19,13 @@ use Rattle.place.specs.declared.Place.{Place}
 use Rattle.place.specs.Places.{freshPlace}
 use Rattle.switches.specs.Switches.{bl, sr, pl, al}
 use Rattle.counters.specs.Counters.{cn, ud}
-use Rattle.timing.proofs.Left.{most, Few, dl-few, os-few, fl-few}
+use Rattle.timers.specs.Timers.{ticksIn, dl, os, fl}
+use Rattle.timers.proofs.Times.{ticks-least, ticks-most}
+use Rattle.timing.proofs.Left.{dl-left, os-left, fl-left}
 use Rattle.analog.specs.Analog.{cp, og, zc, st}
 use Rattle.terms.specs.Bits.{packed}
 use Rattle.rules.specs.Rules.{fieldOf, pinOf, wordOfField, Rule, rules, ruleOf, ruled}
-use Rattle.image.specs.State.{goodPlace}
+use Rattle.image.specs.State.{mostTicks, goodPlace}
 use Rattle.scanning.specs.Scan.{Inputs, scanTo}
 use Rattle.terms.proofs.Every.{both-hold, every-at, every-replicate, every-set}
 use Rattle.promises.proofs.ReadPrograms.{Row, Rows, setting-below, period-some}
@@ -37,19 +39,37 @@ pub packed-below : (l : List Bool) → packed l < 2 ^ length l
 packed-below [] = omega arith
 packed-below (b ∷ l) = omega (arith, bit-most b, packed-below l, pow-suc 2 (length l))
 
+abbrev Few : Place → Type 0
+Few p = p .ticks ≤ mostTicks
+
 few-of : (p : Place) → goodPlace p ≡ true → Few p
 unfolding goodPlace
-few-of p h = leb-true (p .ticks) most (both (leb (p .ticks) most) _ h .0)
+few-of p h = leb-true (p .ticks) mostTicks (both (leb (p .ticks) mostTicks) _ h .0)
 
 stores-good :
-    (l : List Bool) (o : Bool) (t : ℕ) (w : ℤ) → 2 ^ length l ≤ 16 → t ≤ most →
+    (l : List Bool) (o : Bool) (t : ℕ) (w : ℤ) → 2 ^ length l ≤ 16 → t ≤ mostTicks →
     goodPlace (record { pins = packed l; out = o; ticks = t; word = w }) ≡ true
 unfolding goodPlace
-stores-good l o t w n h = both-hold (le-leb t most h) (le-leb (packed l) 15 (omega (arith, packed-below l)))
+stores-good l o t w n h = both-hold (le-leb t mostTicks h) (le-leb (packed l) 15 (omega (arith, packed-below l)))
 
 bl-good : (value : Bool) (p : Place) → goodPlace p ≡ true → goodPlace (bl value p) ≡ true
 unfolding bl goodPlace
 bl-good value p h = h
+
+-- DL and OS leave at most a time, and that is at most 3,276,700; FL less than a period, and that is at most twice as much
+dl-few : (i c : Bool) (unit on off e : ℕ) (p : Place) → on < 32768 → off < 32768 → Few (dl i c unit on off e p)
+dl-few i c unit on off e p a b =
+    let time = pick i on off in
+    let below = pick-case (λ n. n < 32768) i {x = on} {y = off} (λ _. a) (λ _. b) in
+    dl-left Few e p i c unit on off (λ o t h. omega (arith, h, below, ticks-most unit time))
+
+os-few : (i c : Bool) (unit time e : ℕ) (p : Place) → time < 32768 → Few (os i c unit time e p)
+os-few i c unit time e p a = os-left Few e p i c unit time (λ o t h. omega (arith, h, a, ticks-most unit time))
+
+fl-few : (i : Bool) (unit on off e : ℕ) (p : Place) → on < 32768 → off < 32768 → 0 < on + off → Few (fl i unit on off e p)
+fl-few i unit on off e p a b some =
+    let period : 0 < ticksIn unit on + ticksIn unit off = omega (arith, some, ticks-least unit on, ticks-least unit off) in
+    fl-left Few e p i unit on off (λ o t h. omega (arith, h period, a, b, ticks-most unit on, ticks-most unit off))
 
 -- OG, by its cases, leaves the ticks
 og-few : (i : Bool) (a b c x : ℤ) (p : Place) → Few p → Few (og i a b c x p)

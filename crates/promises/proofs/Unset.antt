@@ -7,7 +7,7 @@ use Rattle.terms.proofs.Choice.{pick-case, never}
 use Rattle.kinds.specs.Kinds.{kindOf}
 use Rattle.place.specs.declared.Place.{Place}
 use Rattle.switches.specs.Switches.{bl, sr, pl, al}
-use Rattle.timing.proofs.Left.{dl-word, os-word, fl-word}
+use Rattle.timing.proofs.Left.{dl-left, os-left, fl-left}
 use Rattle.counters.specs.Counters.{cn, ud}
 use Rattle.analog.specs.Analog.{cp, og, zc, st}
 use Rattle.rules.specs.Rules.{Rule, rules, ruleOf}
@@ -61,9 +61,9 @@ module _ (pin : ℕ → Bool) (word : ℕ → ℤ) (set : ℕ → ℕ) (e : ℕ)
       also (λ _. refl)
       also (λ _. refl)
       also (λ _. refl)
-      also (λ _. dl-word (pin 0) (pin 1) (set 2) (set 3) (set 4) e p)
-      also (λ _. os-word (pin 0) (pin 1) (set 2) (set 3) e p)
-      also (λ _. fl-word (pin 0) (set 1) (set 2) (set 3) e p)
+      also (λ _. dl-left Word-stays e p (pin 0) (pin 1) (set 2) (set 3) (set 4) (λ o t _. refl))
+      also (λ _. os-left Word-stays e p (pin 0) (pin 1) (set 2) (set 3) (λ o t _. refl))
+      also (λ _. fl-left Word-stays e p (pin 0) (set 1) (set 2) (set 3) (λ o t _. refl))
       also never
       also never
       also (λ _. refl)

@@ -1,8 +1,7 @@
--- What the rules of DL, OS and FL leave: few ticks, that is 0, fewer than a time of at most 3,276,700 (DL, OS), or fewer than a period of at most
--- twice that (FL); and the word as it was. Assumes nothing.
+-- What the rules of DL, OS and FL leave: an output, ticks up to a time (DL, OS) or below a period (FL), and the rest of the place as it was. So what
+-- holds of every such place holds of what the rule leaves. Assumes nothing.
 use Prim.Native.Nat.{ℕ, _+_, _≤_, _<_}
-use mathlib.Core.Bool.{Bool}
-use mathlib.Core.Path.{_≡_, refl}
+use mathlib.Core.Bool.{Bool, false}
 use native.Mathlib.Omega.{arith}
 use native.Mathlib.Nat.{mod-lt}
 use lib.Dec.{leb}
@@ -10,64 +9,41 @@ use borrow.Author.Tests.{leb-false}
 use Rattle.terms.specs.Choice.{pick}
 use Rattle.terms.proofs.Choice.{pick-case}
 use Rattle.place.specs.declared.Place.{Place}
-use Rattle.place.specs.Places.{firstWas, rises, differs}
+use Rattle.place.specs.Places.{timedTo, firstWas, rises, differs}
 use Rattle.timers.specs.Timers.{ticksIn, dlTicks, dl, os, fl, flTicks}
-use Rattle.timers.proofs.Times.{ticks-least, ticks-most}
 
--- "ticks over 6,553,399" are bad
-abbrev pub most : ℕ
-most = 6553399
+module _ (M : Place → Type 0) (e : ℕ) (p : Place) where
+  abbrev Timed : (ℕ → Type 0) → Type 0
+  Timed Few = (o : Bool) (t : ℕ) → Few t → M (timedTo o t p)
 
-abbrev pub Few : Place → Type 0
-Few p = p .ticks ≤ most
+  pub dl-left : (i c : Bool) (unit on off : ℕ) → Timed (λ t. t ≤ ticksIn unit (pick i on off)) → M (dl i c unit on off e p)
+  unfolding dl
+  dl-left i c unit on off f =
+      let time = ticksIn unit (pick i on off) in
+      pick-case M c (λ _. f false 0 (omega arith))
+      (λ _. pick-case M (differs i (p .out))
+      (λ _. pick-case M (leb time (dlTicks i c e p)) (λ _. f i 0 (omega arith))
+      (λ lt. f (p .out) (dlTicks i c e p) (omega (arith, leb-false time (dlTicks i c e p) lt))))
+      (λ _. f (p .out) 0 (omega arith)))
 
-pub dl-few : (i c : Bool) (unit on off e : ℕ) (p : Place) → on < 32768 → off < 32768 → Few (dl i c unit on off e p)
-unfolding dl
-dl-few i c unit on off e p a b =
-    pick-case Few c (λ _. omega arith)
-    (λ _. pick-case Few (differs i (p .out))
-    (λ _. pick-case Few (leb (ticksIn unit (pick i on off)) (dlTicks i c e p)) (λ _. omega arith)
-    (λ lt.
-    let t = pick-case (λ n. n < 32768) i {x = on} {y = off} (λ _. a) (λ _. b) in
-    omega (arith, leb-false (ticksIn unit (pick i on off)) (dlTicks i c e p) lt, ticks-most unit (pick i on off))))
-    (λ _. omega arith))
+  pub os-left : (i c : Bool) (unit time : ℕ) → Timed (λ t. t ≤ ticksIn unit time) → M (os i c unit time e p)
+  unfolding os
+  os-left i c unit time f =
+      pick-case M c (λ _. f false 0 (omega arith))
+      (λ _. pick-case M (p .out)
+      (λ _. pick-case M (leb (ticksIn unit time) (p .ticks + e)) (λ _. f false 0 (omega arith))
+      (λ lt. f _ (p .ticks + e) (omega (arith, leb-false (ticksIn unit time) (p .ticks + e) lt))))
+      (λ _. f _ 0 (omega arith)))
 
-pub os-few : (i c : Bool) (unit time e : ℕ) (p : Place) → time < 32768 → Few (os i c unit time e p)
-unfolding os
-os-few i c unit time e p a =
-    pick-case Few c (λ _. omega arith)
-    (λ _. pick-case Few (p .out)
-    (λ _. pick-case Few (leb (ticksIn unit time) (p .ticks + e)) (λ _. omega arith)
-    (λ lt. omega (arith, leb-false (ticksIn unit time) (p .ticks + e) lt, ticks-most unit time)))
-    (λ _. omega arith))
+  -- a period of 0, which no program that can be read has, bounds nothing
+  abbrev Within : ℕ → ℕ → Type 0
+  Within period t = 0 < period → t < period
 
-pub fl-few : (i : Bool) (unit on off e : ℕ) (p : Place) → on < 32768 → off < 32768 → 0 < on + off → Few (fl i unit on off e p)
-unfolding fl flTicks
-fl-few i unit on off e p a b pos =
-    pick-case Few i
-    (λ _. pick-case (λ n. n ≤ most) (rises i (firstWas p)) (λ _. omega arith)
-    (λ _.
-    let period : 0 < ticksIn unit on + ticksIn unit off = omega (arith, ticks-least unit on, ticks-least unit off) in
-    omega (arith, mod-lt (p .ticks + e) period, ticks-most unit on, ticks-most unit off)))
-    (λ _. omega arith)
-
-abbrev Word-stays : Place → Place → Type 0
-Word-stays p q = q .word ≡ p .word
-
-pub dl-word : (i c : Bool) (unit on off e : ℕ) (p : Place) → Word-stays p (dl i c unit on off e p)
-unfolding dl
-dl-word i c unit on off e p =
-    pick-case (Word-stays p) c (λ _. refl)
-    (λ _. pick-case (Word-stays p) (differs i (p .out))
-    (λ _. pick-case (Word-stays p) (leb (ticksIn unit (pick i on off)) (dlTicks i c e p)) (λ _. refl) (λ _. refl)) (λ _. refl))
-
-pub os-word : (i c : Bool) (unit time e : ℕ) (p : Place) → Word-stays p (os i c unit time e p)
-unfolding os
-os-word i c unit time e p =
-    pick-case (Word-stays p) c (λ _. refl)
-    (λ _. pick-case (Word-stays p) (p .out)
-    (λ _. pick-case (Word-stays p) (leb (ticksIn unit time) (p .ticks + e)) (λ _. refl) (λ _. refl)) (λ _. refl))
-
-pub fl-word : (i : Bool) (unit on off e : ℕ) (p : Place) → Word-stays p (fl i unit on off e p)
-unfolding fl
-fl-word i unit on off e p = pick-case (Word-stays p) i (λ _. refl) (λ _. refl)
+  pub fl-left : (i : Bool) (unit on off : ℕ) → Timed (Within (ticksIn unit on + ticksIn unit off)) → M (fl i unit on off e p)
+  unfolding fl flTicks
+  fl-left i unit on off f =
+      let period = ticksIn unit on + ticksIn unit off in
+      pick-case M i
+      (λ _. f _ (flTicks i unit on off e p)
+      (pick-case (Within period) (rises i (firstWas p)) (λ _ some. some) (λ _ some. mod-lt (p .ticks + e) some)))
+      (λ _. f false 0 (λ some. some))
