@@ -1,4 +1,5 @@
 // One block read from its bytes: the fields of every kind.
+#![tactic(auto)]
 ghost use Rattle.std.specs.Prelude.{◌≡◌, ◌<◌};
 ghost use Rattle.numbers.specs.Types.{number_types, kind_count};
 ghost use Rattle.kinds.specs.Kinds.{types_of};

@@ -1,4 +1,5 @@
 // The calls on a state that a console keeps in arrays: written in place, or left as it is by a refusal.
+#![tactic(auto)]
 ghost use Rattle.std.specs.Prelude.{◌≡◌};
 ghost use Rattle.image.specs.Lent.{before, after};
 ghost use Rattle.scanning.specs.Scan.{inputs};

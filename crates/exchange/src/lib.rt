@@ -1,4 +1,5 @@
 // What export and import answer.
+#![tactic(auto)]
 ghost use Rattle.std.specs.Prelude.{◌≡◌};
 ghost use Rattle.exchange.specs.Exchange.{refused, done};
 

@@ -1,4 +1,5 @@
 // Formulas typed as text, within the bounds of an expression.
+#![tactic(auto)]
 ghost use Rattle.std.specs.Prelude.{◌≡◌};
 ghost use Rattle.formula.specs.Answers.{Answers, refused};
 

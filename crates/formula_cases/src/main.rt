@@ -1,6 +1,7 @@
 // Every file that an argument names, under its name: a text on each line, and what it is answered as a formula.
 // tests/formulas.py says how the lines are written, and writes the files and what is to be printed.
 // Nothing but safety is promised here: what is read and answered is compared when the cases are run.
+#![tactic(auto)]
 ghost use Rattle.std.specs.Prelude.{◌≡◌, length};
 
 use libc::STDOUT_FILENO;

@@ -1,6 +1,7 @@
 // Every file that an argument names, under its name: cases of the controller, a command a line, its words with single spaces between them.
 // tests/controller.py says what the commands are, and writes the files and what is to be printed.
 // Nothing but safety is promised here: what is read and answered is compared when the cases are run.
+#![tactic(auto)]
 mod looking;
 mod saying;
 mod words;

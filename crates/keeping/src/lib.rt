@@ -1,4 +1,5 @@
 // A window in a buffer: it is fed, and what is left of it is moved down, so that the next can be read behind it.
+#![tactic(auto)]
 ghost use Rattle.std.specs.Prelude.{◌≤◌, length, take};
 ghost use Rattle.recording.specs.Recording.{program_bytes};
 ghost use Rattle.playback.specs.Playback.{fed};

@@ -1,4 +1,5 @@
 // The table of kinds, for the code.
+#![tactic(auto)]
 ghost use Rattle.std.specs.Prelude.{◌≡◌, ◌<◌};
 ghost use Rattle.numbers.specs.Types.{kind_count};
 ghost use Rattle.kinds.specs.Kinds.{kind_of, figure_for, mark_for};

@@ -1,4 +1,5 @@
 // The controller's calls for programs in C: include/lanwezik.h has their declarations.
+#![tactic(auto)]
 ghost use Rattle.std.specs.Prelude.{◌≡◌};
 ghost use Rattle.program.specs.Acceptance.{accepted};
 ghost use Rattle.image.specs.Image.{image_of};

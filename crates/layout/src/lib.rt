@@ -1,1 +1,2 @@
 // The form of a listing.
+#![tactic(auto)]

@@ -1,6 +1,7 @@
 // Every file that an argument names, under its name: a line for each case in it, with the answer and a sum of the buffer that was lent.
 // tests/listings.py says how the cases are written, and writes the files and what is to be printed.
 // Nothing but safety is promised here: what is read and answered is compared when the cases are run.
+#![tactic(auto)]
 ghost use Rattle.std.specs.Prelude.{◌≡◌, ◌≤◌, ◌<◌, length};
 
 use exchange::Exchange;

@@ -1,4 +1,5 @@
 // Bytes that are read behind others in a buffer, and moved down in it.
+#![tactic(auto)]
 ghost use Rattle.std.specs.Prelude.{◌≡◌, ◌++◌, ◌-◌, ◌≤◌, ◌<◌, length, take, drop};
 ghost use Rattle.reading.specs.Reading.{input_of, Inside};
 

@@ -1,4 +1,5 @@
 // The listing program: the recording on standard input.
+#![tactic(auto)]
 use libc::STDIN_FILENO;
 
 fn main() {

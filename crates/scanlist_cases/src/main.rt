@@ -1,4 +1,5 @@
 // Every file that an argument names, under its name: each is a recording, and what scanlist prints for it follows.
+#![tactic(auto)]
 use libc::STDOUT_FILENO;
 
 // The file that argument i names.

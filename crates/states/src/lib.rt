@@ -1,4 +1,5 @@
 // A state put into the arrays of its image, and taken out of them.
+#![tactic(auto)]
 mod places;
 
 ghost use Rattle.std.specs.Prelude.{◌≡◌, ◌^◌, ◌<◌};

@@ -1,4 +1,5 @@
 // A recording printed: read, feed, write. What is read and written is the system's.
+#![tactic(auto)]
 ghost use Rattle.std.specs.Prelude.{◌≡◌, ◌+◌, ◌≤◌, ◌<◌, length, take};
 ghost use Rattle.recording.specs.Recording.{program_bytes};
 ghost use Rattle.playback.specs.Playback.{opening};

@@ -1,4 +1,6 @@
 // What every other crate speaks in: the numbers of refusal, and words carried as numbers.
+#![tactic(auto)]
+
 ghost use Rattle.std.specs.Prelude.{◌≡◌};
 ghost use Rattle.terms.specs.Words.{signed, hold_word};
 
