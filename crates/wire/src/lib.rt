@@ -1,5 +1,6 @@
 // Numbers on the wire: one to three groups of seven bits, lowest first, in shortest form.
 #![tactic(auto)]
+
 ghost use Rattle.std.specs.Prelude.{◌≡◌, ◌<◌};
 ghost use Rattle.wire.specs.Number.{groups_at, more, not_zero, number_at};
 ghost use Rattle.wire.specs.Facts.{NumberFacts};
