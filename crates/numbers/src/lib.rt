@@ -1,5 +1,6 @@
 // The numbers of a program, by their types: which may stand where, and whether what they refer to is there.
 #![tactic(auto)]
+
 ghost use Rattle.std.specs.Prelude.{◌≡◌, ◌<◌, get_or};
 ghost use Rattle.numbers.specs.Types.{number_types, allowed, bit_ref, limits};
 ghost use Rattle.numbers.specs.Reading.{bit_marked, marked, typed_at, as_number};

@@ -1,5 +1,6 @@
 // Text put into a buffer: bytes at a place, and numbers in decimal.
 #![tactic(auto)]
+
 ghost use Rattle.std.specs.Prelude.{[], ◌∷◌, ◌++◌, ◌+◌, ◌≤◌, length};
 ghost use Rattle.text.specs.Text.{decimal, Put};
 
