@@ -1,23 +1,15 @@
--- `filling::put_decimal` meets its contract. The loop's invariant: the digits of what is left, before those that stand already, are the whole.
 use Prim.Native.Nat.{ℕ, suc, ◌+◌, ◌-◌, ◌/◌, ◌%◌, ◌^◌, ◌≤◌, ◌<◌}
-use mathlib.Core.Path.{◌≡◌, refl, sym, ap, ◌∙◌}
+use mathlib.Core.Path.{◌≡◌, refl, sym, ◌∙◌}
 use mathlib.Core.List.{List, [], ◌∷◌, ◌++◌, append_assoc, append-nil}
-use native.Mathlib.Nat.{pow-suc, pow-zero}
+use native.Mathlib.Nat.{pow-suc}
 use native.Mathlib.Omega.{arith, by_contra}
-use borrow.Author.Rules.{rules}
 use borrow.Author.Rules.{part_to_end}
 use lib.ListN.{length, set, take, drop, length-set}
 use lib.Seq.{drop-cons, get_or-set_same, drop-set-lt}
 use Rattle.filling.specs.Filling.{digits_of, decimal}
 use Rattle.filling.proofs.Decimals.{digits_one, digits_more, digits_short, digits_same}
-use Rattle.filling.proofs.put_decimal.Statement.{statement}
-use Rattle.filling.proofs.put_decimal.Tie as tie
-
-record Going (n : ℕ) (text : List ℕ) (from left : ℕ) : Type 0 where
-  size : length text ≡ 10
-  within : from ≤ 9
-  few : left < 10 ^ suc from
-  same : digits_of (suc from) left ++ drop (suc from) text ≡ digits_of 10 n
+use Rattle.filling.proofs.put_decimal.Invariants.{Going}
+use Rattle.filling.proofs.put_decimal.Goals as goal
 
 -- a digit put at a place stands before what stands behind it
 put_before : (text : List ℕ) (from d : ℕ) → from < length text → drop from (set text from d) ≡ d ∷ drop (suc from) text
@@ -55,47 +47,43 @@ module _ (n : ℕ) (text : List ℕ) (from left : ℕ) (g : Going n text from le
   few_digits : n < 10 ^ 10 → left < 10 → length (take (10 - from) (drop from (set text from (48 + left)))) ≤ 10
   few_digits l h = rw (digits_part l h, sym (digits_same 9 10 n l)) (digits_short 10 n)
 
-abbrev invariant-loop : tie.invariant-loop
-invariant-loop out₀ at n text₀ from₀ left₀ text from left = Going n text from left
+pub loop-left-init : goal.loop-left-init
+loop-left-init c =
+    record { size = refl; within = omega arith; few = omega arith; same = append-nil _ }
 
-abbrev decreases-loop : tie.decreases-loop
-decreases-loop out₀ at n text₀ from₀ left₀ text from left = left
+pub bounds-text-from : goal.bounds-text-from
+bounds-text-from c =
+    omega (arith, c.loop-left.invariant.within)
 
-loop-again : tie.Need-loop-preserved invariant-loop decreases-loop
-loop-again c =
-    let l = c.before.loop in
-    more_digits _ l.text l.from l.left l.invariant c.loop-test.true
+pub overflow_sub-from : goal.overflow_sub-from
+overflow_sub-from c =
+    some _ _ _ _ c.loop-left.invariant c.loop-left-test.true
 
-returns : tie.Need-returns invariant-loop decreases-loop
+pub loop-left-preserved : goal.loop-left-preserved
+loop-left-preserved c =
+    let l = c.loop-left in more_digits _ l.text l.from l.left l.invariant c.loop-left-test.true
+
+pub bounds-text-from-2 : goal.bounds-text-from-2
+bounds-text-from-2 c =
+    omega (arith, c.loop-left.invariant.within)
+
+pub slice_bounds-put-count : goal.slice_bounds-put-count
+slice_bounds-put-count c =
+    omega (arith, c.loop-left.invariant.within)
+
+pub slice_bounds-put-start : goal.slice_bounds-put-start
+slice_bounds-put-start c =
+    omega (arith, c.loop-left.invariant.within)
+
+pub slice_bounds-put-end : goal.slice_bounds-put-end
+slice_bounds-put-end c =
+    let l = c.loop-left in omega (arith, l.invariant.size, length-set l.text l.from (48 + l.left))
+
+pub put-requires : goal.put-requires
+put-requires c =
+    let l = c.loop-left in omega (arith, few_digits _ l.text l.from l.left l.invariant (omega arith) (omega arith))
+
+pub returns : goal.returns
 returns c =
-    let l = c.before.before.before.before.before.before.before.loop in
-    let o = digits_part _ l.text l.from l.left l.invariant (omega arith) (omega arith) in
-    rw o at c.before.before.put.ensures
-
-put-requires : tie.Need-put-requires invariant-loop decreases-loop
-put-requires c κs =
-    let l = c.before.before.before.before.loop in
-    omega (arith, few_digits _ l.text l.from l.left l.invariant (omega arith) (omega arith))
-
-pub put_decimal_spec : {M : Type 1} → statement M
-put_decimal_spec =
-    tie.close
-    (tie.spec
-    invariant-loop
-    decreases-loop
-    (λ c. record { size = refl; within = omega arith; few = omega arith; same = append-nil _ })
-    (λ c. omega arith)
-    (λ c. omega arith)
-    (λ c. omega (arith, c.before.loop.invariant.within))
-    (λ c. some _ _ _ _ c.before.loop.invariant c.loop-test.true)
-    (λ c. omega arith)
-    loop-again
-    (λ c. omega arith)
-    (λ c. omega arith)
-    (λ c. omega (arith, c.before.loop.invariant.within))
-    (λ c. omega (arith, c.before.before.loop.invariant.within))
-    (λ c. omega (arith, c.before.before.before.loop.invariant.within))
-    (λ c. let l = c.before.before.before.loop in omega (arith, l.invariant.size, length-set l.text l.from (48 + l.left)))
-    put-requires
-    (λ c. search rules)
-    returns)
+    let l = c.loop-left in let o = digits_part _ l.text l.from l.left l.invariant (omega arith) (omega arith) in
+    rw o at c.put.ensures
