@@ -16,7 +16,7 @@ use Rattle.image.proofs.Images.{image_parts}
 use Rattle.scanning.specs.Scan.{Inputs}
 use Rattle.scanning.specs.Run.{places_after, steps_in, alarms_after, after_run}
 use Rattle.scanning.proofs.Ran.{Ran}
-use Rattle.logbook.specs.Logbook.{risen_in, log_closed}
+use Rattle.log_book.specs.Logbook.{risen_in, log_closed}
 use Rattle.calls.specs.declared.ScanAnswer.{ScanAnswer}
 use Rattle.calls.specs.Calls.{stamp_of, answered, scan_of}
 use Rattle.calls.specs.InPlace.{refused_after, scan_answer, scanned_in, after_scan}

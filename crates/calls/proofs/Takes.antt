@@ -13,7 +13,7 @@ use Rattle.image.specs.Image.{Image, image, journal_in, is_image, good_image, st
 use Rattle.image.specs.State.{good_place, good_state}
 use Rattle.image.specs.Lent.{SizedColumns}
 use Rattle.image.proofs.Images.{image_parts, columns_again}
-use Rattle.logbook.specs.Logbook.{log_taken}
+use Rattle.log_book.specs.Logbook.{log_taken}
 use Rattle.calls.specs.Calls.{take_of, handed_by}
 use Rattle.calls.specs.InPlace.{refused_taken, take_answer, taken_in, after_take}
 use Rattle.calls.proofs.Scans.{GoodImage}

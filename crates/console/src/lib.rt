@@ -40,7 +40,7 @@ pub fn scan_in(
     let stamp = Stamp {
         time: counts[0] + (elapsed as u64),
     };
-    let rises = logbook::close(stamp, a.alarms, counts, times, numbers);
+    let rises = log_book::close(stamp, a.alarms, counts, times, numbers);
     ScanAnswer {
         refusal: 0,
         place: 0,
@@ -67,7 +67,7 @@ pub fn take_in(
     if !inspection::good(counts, times, numbers, ticks, words, pins, outputs) {
         return calls::refuse_take();
     }
-    let o = logbook::hand_out(counts, times, numbers);
+    let o = log_book::hand_out(counts, times, numbers);
     let e = o.entry;
     TakeAnswer {
         refusal: 0,

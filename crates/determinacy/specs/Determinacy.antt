@@ -39,8 +39,8 @@ use Rattle.image.proofs.journal_in.Reads as image_journal_in
 use Rattle.image.proofs.put_journal.Reads as image_put_journal
 use Rattle.inspection.proofs.good.Reads as inspection_good
 use Rattle.inspection.proofs.is_late.Reads as inspection_is_late
-use Rattle.logbook.proofs.close.Reads as logbook_close
-use Rattle.logbook.proofs.hand_out.Reads as logbook_hand_out
+use Rattle.log_book.proofs.close.Reads as logbook_close
+use Rattle.log_book.proofs.hand_out.Reads as logbook_hand_out
 use Rattle.copies.proofs.copy_ticks.Reads as copies_copy_ticks
 use Rattle.copies.proofs.copy_pins.Reads as copies_copy_pins
 use Rattle.loading.proofs.load_bits.Reads as loading_load_bits

@@ -1,5 +1,6 @@
 // What export and import answer.
 #![tactic(auto)]
+
 ghost use Rattle.std.specs.Prelude.{◌≡◌};
 ghost use Rattle.exchange.specs.Exchange.{refused, done};
 

@@ -1,5 +1,6 @@
 // Text put into a lent buffer, as far as it has places: so the same function measures a text, on no places, and writes it.
 #![tactic(auto)]
+
 ghost use Rattle.std.specs.Prelude.{◌≡◌, ◌+◌, ◌<◌, ◌^◌, length, set};
 ghost use Rattle.filling.specs.Filling.{decimal, Put};
 

@@ -1,5 +1,6 @@
 // The table of kinds, for the code.
 #![tactic(auto)]
+
 ghost use Rattle.std.specs.Prelude.{◌≡◌, ◌<◌};
 ghost use Rattle.numbers.specs.Types.{kind_count};
 ghost use Rattle.kinds.specs.Kinds.{kind_of, figure_for, mark_for};
@@ -8,6 +9,7 @@ ghost use Rattle.kinds.specs.Kinds.{kind_of, figure_for, mark_for};
 pub const MEMORY_LIMIT: u32 = 5000;
 
 // The memory of a kind, of a BL without its nodes.
+#[tactic(auto, unfolding(crate::specs::Kinds::kind_of))]
 pub fn memory_of(kind: u8) -> u32
     requires { kind < kind_count }
     ensures { result ≡ (kind_of kind).memory }
@@ -37,6 +39,7 @@ pub fn figure_of(nodes: u32) -> u32
 }
 
 // Whether a kind has a word output.
+#[tactic(auto, unfolding(crate::specs::Kinds::kind_of))]
 fn has_word(kind: u8) -> bool
     requires { kind < kind_count }
     ensures { result ≡ (kind_of kind).has_word }

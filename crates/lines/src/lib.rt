@@ -1,5 +1,6 @@
 // The lines that are printed for a recording, put into a buffer.
 #![tactic(auto)]
+
 ghost use Rattle.std.specs.Prelude.{◌+◌, ◌≤◌, length};
 ghost use Rattle.text.specs.Text.{Put};
 ghost use Rattle.lines.specs.Lines.{line_bytes, line_with, refused_line, bad_scan, bad_program};

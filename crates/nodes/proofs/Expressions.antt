@@ -6,6 +6,7 @@ use native.Mathlib.Omega.{arith}
 use lib.Dec.{eqb, leb}
 use borrow.Author.Tests.{eqb-false, leb-true, leb-false}
 use Rattle.terms.proofs.Choice.{pick_case}
+use Rattle.terms.specs.Refusals.{outside}
 use Rattle.numbers.proofs.Typed.{typed_below}
 use Rattle.numbers.specs.Blocks.{Expr, inv, gate, nodes}
 use Rattle.numbers.specs.Types.{node_number}
@@ -58,7 +59,8 @@ pub step :
     (k : Marks) (d left : ℕ) (s : List ℕ) (at : ℕ) →
     expr_at k d left s at ≡ grow (λ l n. expr_at k (d - 1) l s n) left (head_at k d left s at)
 unfolding expr_at
-step k zero left s at = stop_deep _ _ left (head_at k 0 left s at) (sound k 0 left s at refl)
+step k zero left s at =
+    stop_deep (λ l n. fault outside n) (λ l n. expr_at k (0 - 1) l s n) left (head_at k 0 left s at) (sound k 0 left s at refl)
 step k (suc d) left s at = let e : suc d - 1 ≡ d = omega arith in simp e
 
 -- passing over a node's parts
@@ -138,7 +140,7 @@ within_grow part h d l (Stop n at) s = tt
 
 within : (k : Marks) (d l : ℕ) (s : List ℕ) (at : ℕ) → Within l (expr_at k d l s at)
 unfolding expr_at
-within k zero l s at = within_grow _ (λ l n. tt) 0 l (head_at k 0 l s at) (sound k 0 l s at refl)
+within k zero l s at = within_grow (λ l n. fault outside n) (λ l n. tt) 0 l (head_at k 0 l s at) (sound k 0 l s at refl)
 within k (suc d) l s at = within_grow _ (λ l n. within k d l s n) (suc d) l (head_at k (suc d) l s at) (sound k (suc d) l s at refl)
 
 pub few : (k : Marks) (d l : ℕ) (s : List ℕ) (at : ℕ) {t : Expr} {next : ℕ} → expr_at k d l s at ≡ got t next → nodes t ≤ l

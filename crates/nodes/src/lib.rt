@@ -1,5 +1,6 @@
 // Expressions in the bytes of a program: a node, and passing over a whole one.
 #![tactic(auto)]
+
 ghost use Rattle.std.specs.Prelude.{◌≡◌};
 ghost use Rattle.nodes.specs.Reading.{head_at, expr_at, passed};
 

@@ -1,10 +1,11 @@
 // What is kept of a block from scan to scan.
 #![tactic(auto)]
+
 ghost use Rattle.std.specs.Prelude.{◌≡◌, [], ◌∷◌};
 ghost use Rattle.terms.specs.Bits.{packed};
 ghost use Rattle.place.specs.Places.{fresh_place, pinned, first_was, second_was, rises, falls, either_differs};
 
-#[derive(Drop)]
+#[derive(Clone, Copy)]
 pub struct Place {
     pub pins: u8,
     pub out: bool,

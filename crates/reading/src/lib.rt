@@ -1,7 +1,11 @@
 // Bytes that are read behind others in a buffer, and moved down in it.
 #![tactic(auto)]
+
 ghost use Rattle.std.specs.Prelude.{◌≡◌, ◌++◌, ◌-◌, ◌≤◌, ◌<◌, length, take, drop};
 ghost use Rattle.reading.specs.Reading.{input_of, Inside};
+
+use std::io;
+use std::io::Read;
 
 // What a read gave: some bytes, the end of the input, or nothing, because it failed.
 #[derive(Drop)]
@@ -11,15 +15,16 @@ pub enum Input {
     Failed,
 }
 
-// What a count says that a read into `space` gave.
-pub fn told_by(got: isize, space: &[u8]) -> Input
+// What the answer of a read into `space` says that it gave.
+#[tactic(auto, unfolding(crate::specs::Reading::input_of))]
+pub fn told_by(got: io::Result<usize>, space: &[u8]) -> Input
     requires { 0 < length space.now }
     ensures { result ≡ input_of got (length space.now) }
 {
-    if got < 0 {
+    let Ok(count) = got else {
         return Input::Failed;
-    }
-    let n = io::count(got, space);
+    };
+    let n = count.min(space.len());
     if n == 0 {
         return Input::End;
     }
@@ -27,11 +32,11 @@ pub fn told_by(got: isize, space: &[u8]) -> Input
 }
 
 // Reads on behind what is kept. What is read is not in the logic.
-pub fn read_behind(fd: i32, buf: &mut [u8], kept: usize) -> Input
+pub fn read_behind<R: Read>(reader: &mut R, buf: &mut [u8], kept: usize) -> Input
     requires { kept < length buf.old }
     ensures { (take kept buf.new ≡ take kept buf.old) × Inside kept buf.new result }
 {
-    let got = libc::read(fd, &mut buf[kept..]);
+    let got = reader.read(&mut buf[kept..]);
     told_by(got, &buf[kept..])
 }
 

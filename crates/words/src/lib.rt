@@ -1,5 +1,6 @@
 // The words of a listing: names of fields, ALARMS, and the letters of the kinds.
 #![tactic(auto)]
+
 ghost use Rattle.std.specs.Prelude.{◌≡◌, ◌+◌, ◌<◌, ◌^◌, length, get_or};
 ghost use Rattle.filling.specs.Filling.{Put};
 ghost use Rattle.words.specs.Words.{word_count, word_text};

@@ -1,0 +1,8 @@
+-- `filling::put_byte` meets its contract: past the last place nothing is put.
+use mathlib.Core.Path.{sym}
+use lib.Seq.{set_out}
+use Rattle.filling.proofs.put_byte.Goals as goal
+
+pub returns-else-at-out : goal.returns-else-at-out
+returns-else-at-out c =
+    sym (set_out c.args.out.now _ _ c.if-at-out.false)
