@@ -1,5 +1,6 @@
 // The fields of the table of kinds, for the code: kinds/specs/Kinds, column by column.
 #![tactic(auto)]
+
 ghost use Rattle.std.specs.Prelude.{[], ◌∷◌, ◌≡◌, ◌<◌, length, get_or};
 ghost use Rattle.numbers.specs.Types.{kind_count};
 ghost use Rattle.kinds.specs.Kinds.{fields_of};

@@ -1,5 +1,6 @@
 // What stands at a place of a formula's text: spaces, a name, an operator.
 #![tactic(auto)]
+
 ghost use Rattle.std.specs.Prelude.{◌≡◌, ◌≤◌};
 ghost use Rattle.wire.specs.Number.{byte_at};
 ghost use Rattle.grammar.specs.Machine.{tens};

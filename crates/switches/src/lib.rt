@@ -1,5 +1,6 @@
 // The rules of BL, SR, PL and AL: from the values at a block's pins, its settings and its old place to its new place.
 #![tactic(auto)]
+
 ghost use Rattle.std.specs.Prelude.{◌≡◌};
 ghost use Rattle.switches.specs.Switches.{bl, sr, pl, al};
 
