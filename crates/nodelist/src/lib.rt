@@ -1,5 +1,6 @@
 // Node numbers in a lent array, as far as it has places: a number put at one, and a number put before others.
 #![tactic(auto)]
+
 ghost use Rattle.std.specs.Prelude.{◌∷◌, ◌≡◌, set, take, drop};
 ghost use Rattle.std.proofs.lemmas.List.Edits.{sets};
 
