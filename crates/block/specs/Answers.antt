@@ -1,7 +1,7 @@
 -- What the functions of this crate answer, in terms of what is read.
 use Rattle.std.specs.Prelude.{List, map, ℕ, zero, suc, ◌+◌, replicate, get_or, set}
 use Rattle.std.proofs.lemmas.List.Edits.{sets}
-use Rattle.numbers.specs.Blocks.{Content, Block, nodes, nodes_in, code_of}
+use Rattle.numbers.specs.Blocks.{Content, Block, nodes_in, code_of}
 use Rattle.kinds.specs.Kinds.{memory_of, figure_of, mark_of}
 use Rattle.wire.specs.Reading.{Read, got, fault}
 use Rattle.numbers.specs.Reading.{Marks, typed_at}

@@ -1,5 +1,6 @@
 // One block read from its bytes: the fields of every kind.
 #![tactic(auto)]
+
 ghost use Rattle.std.specs.Prelude.{◌≡◌, ◌<◌};
 ghost use Rattle.numbers.specs.Types.{number_types, kind_count};
 ghost use Rattle.kinds.specs.Kinds.{types_of};
@@ -12,14 +13,14 @@ use numbers::{
 };
 
 // The place after what was read, or a refusal and its place.
-#[derive(Drop)]
+#[derive(Clone, Copy)]
 pub enum End {
     Next(usize),
     Fault(u8, usize),
 }
 
 // The fields of a block as numbers (0 where there is none, or an expression), its nodes, and where it ends.
-#[derive(Drop)]
+#[derive(Clone, Copy)]
 pub struct Row {
     pub fields: [u32; 5],
     pub nodes: u32,
@@ -151,7 +152,7 @@ pub fn read_row(s: &[u8], start: usize, kind: u8, marks: &[u8; 200]) -> Row
 }
 
 // What acceptance asks of a block: its memory, its step figure and its mark.
-#[derive(Drop)]
+#[derive(Clone, Copy)]
 pub enum Brief {
     Got {
         memory: u32,

@@ -1,5 +1,6 @@
 // The rules of CN and UD: from the values at a block's pins, its preset and its old place to its new place.
 #![tactic(auto)]
+
 ghost use Rattle.std.specs.Prelude.{◌≡◌};
 ghost use Rattle.counters.specs.Counters.{cn_word, cn, ud_word, ud};
 

@@ -10,7 +10,7 @@ use lib.ListN.{length}
 use Rattle.wire.specs.declared.Num.{Num}
 use Rattle.wire.specs.declared.Num.TheVariants.{Got, Bad, Cut}
 use Rattle.wire.specs.Number.{number_at}
-use Rattle.terms.specs.Refusals.{astray}
+use Rattle.terms.specs.Refusals.{outside, astray}
 use Rattle.terms.proofs.Choice.{pick_case, when_case}
 use Rattle.numbers.specs.Blocks.{Bit, Expr, nodes}
 use Rattle.numbers.specs.Types.{pin, kind_number, block_count, alarm_count, node_number, allowed, setting_of}
@@ -76,7 +76,7 @@ module _ (k : Marks) (s : List ℕ) where
 
   expr_fine : (d l at : ℕ) → Fine (expr_at k d l s at)
   unfolding expr_at
-  expr_fine zero l at = grow_fine _ (λ l n. plain (omega arith) (λ z. omega arith)) l (head_at k 0 l s at) (head_fine 0 l at)
+  expr_fine zero l at = grow_fine (λ l n. fault outside n) (λ l n. plain (omega arith) (λ z. omega arith)) l (head_at k 0 l s at) (head_fine 0 l at)
   expr_fine (suc d) l at = grow_fine _ (λ l n. expr_fine d l n) l (head_at k (suc d) l s at) (head_fine (suc d) l at)
 
   content_fine : (ty before at : ℕ) → Fine (content_at k ty before s at)

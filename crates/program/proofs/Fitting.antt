@@ -7,10 +7,11 @@ use native.Mathlib.Omega.{arith}
 use lib.Dec.{eqb, ltb}
 use lib.ListN.{length}
 use borrow.Author.Tests.{lt-ltb}
+use Rattle.terms.specs.Refusals.{outside}
 use Rattle.terms.specs.Choice.{every}
 use Rattle.terms.proofs.Choice.{pick_case, when_case}
 use Rattle.terms.proofs.Every.{both_hold, every_append}
-use Rattle.wire.specs.Reading.{Read, got}
+use Rattle.wire.specs.Reading.{Read, got, fault}
 use Rattle.wire.proofs.Gives.{Gives, gives_then, gives_after}
 use Rattle.numbers.specs.Blocks.{Bit, off, on, input, output, Word, analog, word_of, constant, Expr, Content, tree, Block, leaves, refs_pass, nodes}
 use Rattle.numbers.specs.Types.{pin, word_pin, kind_number, alarm_count, bit_ref, word_ref, content_of, setting_of}
@@ -55,7 +56,7 @@ trees_grow part h left (Stop n at) = tt
 module _ (m : Marks) (s : List ℕ) where
   trees : (d l at : ℕ) → Gives Tree (expr_at m d l s at)
   unfolding expr_at
-  trees zero l at = trees_grow _ (λ l n. tt) l (head_at m 0 l s at)
+  trees zero l at = trees_grow (λ l n. fault outside n) (λ l n. tt) l (head_at m 0 l s at)
   trees (suc d) l at = trees_grow _ (λ l n. trees d l n) l (head_at m (suc d) l s at)
 
   -- fields

@@ -110,7 +110,7 @@ module _ (j k : Marks) (s : List ℕ) where
 
   expr_again : (d left at : ℕ) → AgainOf in_tree (expr_at j d left s at) (expr_at k d left s at)
   unfolding expr_at
-  expr_again zero left at = grow_again _ _ (λ l n. tt) 0 left at
+  expr_again zero left at = grow_again (λ l n. fault outside n) (λ l n. fault outside n) (λ l n. tt) 0 left at
   expr_again (suc d) left at = grow_again _ _ (λ l n. expr_again d l n) (suc d) left at
 
   -- a field

@@ -1,6 +1,6 @@
 -- A program that was read, read again by other marks: the second reading gives the same, or stops at a reference that is astray, and it stops exactly
 -- if there is one. Assumes nothing.
-use Prim.Native.Nat.{ℕ, zero, suc, ◌-◌}
+use Prim.Native.Nat.{ℕ, zero, suc}
 use mathlib.Core.Path.{◌≡◌, refl, ap}
 use mathlib.Core.Bool.{Bool, true, false, ◌&&◌}
 use mathlib.Core.List.{List, ◌∷◌}
@@ -13,7 +13,7 @@ use Rattle.numbers.specs.Blocks.{Bit, Content, Block, refs_pass}
 use Rattle.numbers.specs.Types.{pin, kind_number, block_count, alarm_count, bit_ref, content_of, said_by}
 use Rattle.numbers.specs.Reading.{Marks, bit_marked, word_marked, marked, typed_at}
 use Rattle.numbers.proofs.References.{marked_pin}
-use Rattle.kinds.specs.Kinds.{kind, types_of}
+use Rattle.kinds.specs.Kinds.{types_of}
 use Rattle.block.specs.Reading.{fields_at, block_at}
 use Rattle.program.specs.Program.{Program, blocks_at, references_at, end_at, alarms_at, program_at}
 use Rattle.program.specs.References.{block_passes, all_pass}

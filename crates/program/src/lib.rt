@@ -1,5 +1,6 @@
 // A whole program read from its bytes, and accepted or refused.
 #![tactic(auto)]
+
 ghost use Rattle.std.specs.Prelude.{◌≡◌, ◌≤◌, ◌<◌};
 ghost use Rattle.program.specs.Program.{blocks_at, references_at, alarms_at, program_at};
 ghost use Rattle.program.specs.Acceptance.{accepted, refused};

@@ -1,5 +1,6 @@
 // The rules of DL, OS and FL: from the values at a block's pins, its settings, the elapsed ticks and its old place to its new place.
 #![tactic(auto)]
+
 ghost use Rattle.std.specs.Prelude.{◌≡◌, ◌+◌, ◌<◌, ◌≤◌};
 ghost use Rattle.terms.specs.Choice.{pick};
 ghost use Rattle.timers.specs.Timers.{ticks_in, dl_ticks, dl, os, fl};
