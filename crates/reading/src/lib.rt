@@ -40,6 +40,21 @@ pub fn read_behind<R: Read>(reader: &mut R, buf: &mut [u8], kept: usize) -> Inpu
     told_by(got, &buf[kept..])
 }
 
+// Reads until the buffer is full, the input ends or a read fails, and answers how many bytes it put at the front.
+pub fn read_full<R: Read>(reader: &mut R, buf: &mut [u8]) -> usize
+    ensures { result ≤ length buf.new }
+{
+    let mut done: usize = 0;
+    while done < buf.len() {
+        let got = reader.read(&mut buf[done..]);
+        let Input::Bytes(n) = told_by(got, &buf[done..]) else {
+            return done;
+        };
+        done += n;
+    }
+    done
+}
+
 // Moves the bytes from..to down, and answers how many they are.
 pub fn move_down(buf: &mut [u8], from: usize, to: usize) -> usize
     requires { (from ≤ to) × (to ≤ length buf.old) }
