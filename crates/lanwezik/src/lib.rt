@@ -1,4 +1,4 @@
-// The controller's calls for programs in C: include/lanwezik.h has their declarations.
+// The controller's calls as a program in C makes them: the crate `lanwezik_c` exports each under its name, and include/lanwezik.h has their declarations.
 #![tactic(auto)]
 ghost use Rattle.std.specs.Prelude.{◌≡◌};
 ghost use Rattle.program.specs.Acceptance.{accepted};
@@ -58,8 +58,7 @@ pub struct Expression {
     pub nodes: [u8; 64],
 }
 
-#[unsafe(no_mangle)]
-pub extern "C" fn lanwezik_accept(program: &[u8]) -> Acceptance
+pub fn lanwezik_accept(program: &[u8]) -> Acceptance
     ensures { result ≡ acceptance (accepted program.now) }
 {
     let a = program::accept(program);
@@ -71,8 +70,7 @@ pub extern "C" fn lanwezik_accept(program: &[u8]) -> Acceptance
     }
 }
 
-#[unsafe(no_mangle)]
-pub extern "C" fn lanwezik_fresh_in(
+pub fn lanwezik_fresh_in(
     counts: &mut [u64; 4],
     times: &mut [u64; 32],
     numbers: &mut [u8; 32],
@@ -86,8 +84,7 @@ pub extern "C" fn lanwezik_fresh_in(
     image::fresh_in(counts, times, numbers, ticks, words, pins, outputs);
 }
 
-#[unsafe(no_mangle)]
-pub extern "C" fn lanwezik_scan_in(
+pub fn lanwezik_scan_in(
     program: &[u8],
     counts: &mut [u64; 4],
     times: &mut [u64; 32],
@@ -125,8 +122,7 @@ pub extern "C" fn lanwezik_scan_in(
     }
 }
 
-#[unsafe(no_mangle)]
-pub extern "C" fn lanwezik_take_in(
+pub fn lanwezik_take_in(
     counts: &mut [u64; 4],
     times: &mut [u64; 32],
     numbers: &mut [u8; 32],
@@ -149,8 +145,7 @@ pub extern "C" fn lanwezik_take_in(
     }
 }
 
-#[unsafe(no_mangle)]
-pub extern "C" fn lanwezik_formula(text: &[u8]) -> Expression
+pub fn lanwezik_formula(text: &[u8]) -> Expression
     ensures { Formulas text.now result }
 {
     let a = formula::read_formula(text);
