@@ -1,13 +1,9 @@
 -- `typed::as_typed` meets its contract.
 use Rattle.typed.proofs.Answering.{answered, one_answer, seven, two, none, numbers, back}
-use Rattle.typed.proofs.as_typed.Statement.{statement}
-use Rattle.typed.proofs.as_typed.Tie as tie
+use Rattle.typed.proofs.as_typed.Goals as goal
 
-pub as_typed_spec : {M : Type 1} → statement M
-as_typed_spec =
-    tie.close
-    (tie.spec
-    (λ c.
+pub returns : goal.returns
+returns c =
     record {
       answered = answered;
       one_answer = one_answer;
@@ -16,4 +12,4 @@ as_typed_spec =
       none = none;
       numbers = numbers;
       back = back;
-    }))
+    }
