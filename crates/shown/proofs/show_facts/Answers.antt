@@ -6,12 +6,11 @@ use Rattle.shown.proofs.Back.{reads_back}
 use Rattle.shown.proofs.Fewest.{fewest}
 use Rattle.shown.proofs.Plain.{short, no_line_end}
 use Rattle.shown.proofs.Read.{read_proper}
-use Rattle.shown.proofs.show_facts.Statement.{statement}
-use Rattle.shown.proofs.show_facts.Tie as tie
+use Rattle.shown.proofs.show_facts.Goals as goal
 
-pub show_facts_spec : {M : Type 1} → statement M
-show_facts_spec =
-    tie.close (tie.spec (λ c. record {
+pub returns : goal.returns
+returns c =
+    record {
       reads_back = reads_back;
       only = λ t u x p h. one_reading (show t) t u (reads_back t p h) x;
       fewest = fewest;
@@ -19,4 +18,4 @@ show_facts_spec =
       accepted_proper = accepted_proper;
       short = short;
       no_line_end = no_line_end;
-    }))
+    }
