@@ -3,10 +3,9 @@ use Rattle.forms.specs.Written.{program_numbers, written}
 use Rattle.forms.proofs.Standing.{numbers_bytes}
 use Rattle.forms.proofs.Back.{first_back, block_back, program_back}
 use Rattle.forms.proofs.Form.{block_form, program_form, accepted_form}
-use Rattle.forms.proofs.one_form.Statement.{statement}
-use Rattle.forms.proofs.one_form.Tie as tie
+use Rattle.forms.proofs.one_form.Goals as goal
 
-returns : tie.Need-returns
+pub returns : goal.returns
 unfolding written
 returns c =
     record {
@@ -18,6 +17,3 @@ returns c =
       accepted_form = accepted_form;
       bytes = λ p. numbers_bytes (program_numbers p);
     }
-
-pub one_form_spec : {M : Type 1} → statement M
-one_form_spec = tie.close (tie.spec returns)
