@@ -1,5 +1,6 @@
 // A state put into the arrays of its image, and taken out of them.
 #![tactic(auto)]
+
 mod places;
 
 ghost use Rattle.std.specs.Prelude.{◌≡◌, ◌^◌, ◌<◌};
