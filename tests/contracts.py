@@ -75,7 +75,7 @@ def main():
             wrong.append(f'{function} has fewer than two edits')
         if asks and f'`{function}`' not in asked_for:
             wrong.append(f'the requires of {function} is not explained')
-        row = function.replace('lanwezik_', 'lanwezik::').replace('::', '-').replace('_', '-').lower().replace('place-place', 'place')
+        row = function.replace('::', '_').lower().replace('place_place', 'place').replace('log_book', 'logbook')
         if crate_of(function) != 'promises' and function not in NO_ANSWER and f'  pub {row} :' not in determinacy:
             wrong.append(f'{function} has no row {row} in Determinacy')
     for function in set(rows) - {f for f, _ in every}:

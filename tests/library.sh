@@ -2,12 +2,10 @@
 #   prove_archive                           proves and builds the archive where it is not up to date
 #   choose_library standin|archive|native   sets compiler, library and runner; if it cannot be, says so and ends with 2
 #   build PROGRAM SOURCE...                 builds and leaves it at $out/PROGRAM, to be run by: $runner $out/PROGRAM
-# The archive is x86-64: on such a machine cc links it; on another the cross compiler does, and the kit's emulator runs it. `native` is what
-# bench/native has built. Set from outside if wanted: ARCHIVE; CC, the native compiler; CFLAGS; STANDIN_CONTROLLER and STANDIN_FORMULA, a
+# The archive is x86-64, and cc links it on such a machine. `native` is what bench/native has built. Set from outside if wanted: ARCHIVE; CC, the native compiler; CFLAGS; STANDIN_CONTROLLER and STANDIN_FORMULA, a
 # controller and a reader of formulas for the stand-in.
 archive=${ARCHIVE:-target/staticlib/liblanwezik.a}
 native=target/native/liblanwezik.a
-cross=x86_64-linux-gnu-gcc
 flags="-std=c99 -Wall -Wextra -Wpedantic -Werror ${CFLAGS:--O3} -Iinclude -Ioracle"
 runner=
 
@@ -34,25 +32,15 @@ build_standin() {
     library="$out/standin.o $out/standin_controller.o $out/standin_formula.o"
 }
 
-# A compiler of programs for x86-64, and what runs them on another machine. They are linked whole, so that the emulator needs no C library.
-choose_cross() {
-    find_kit
-    runner=$kit/on/$(uname -m)/toolchain/bin/qemu-x86_64
-    command -v "$cross" >/dev/null ||
-        give_up "the library is x86-64, and there is no $cross on this machine: install the package gcc-x86-64-linux-gnu"
-    [ -x "$runner" ] || give_up "the library is x86-64, and there is no emulator at $runner"
-    compiler="$cross -static"
-}
-
 # Proves and builds the archive, but for one that was said from outside. What else is missing is said first.
 prove_archive() {
     [ -z "${ARCHIVE:-}" ] || return 0
-    [ ! -e "$archive" ] || [ -n "$(find crates.txt crates -type f -newer "$archive" | head -n 1)" ] || return 0
+    [ ! -e "$archive" ] || [ -n "$(find crates.txt crates -path '*/out' -prune -o -type f -newer "$archive" -print | head -n 1)" ] || return 0
     find_kit
-    [ "$(uname -m)" = x86_64 ] || choose_cross
     echo "proving and building the library, which may take some minutes" >&2
-    said=$(rt staticlib lanwezik 2>&1 </dev/null) || { printf '%s\n' "$said" >&2; exit 2; }
-    touch "$archive"
+    said=$(cd crates/lanwezik_c && rt lib 2>&1 </dev/null) || { printf '%s\n' "$said" >&2; exit 2; }
+    mkdir -p "$(dirname "$archive")"
+    cp crates/lanwezik_c/out/liblanwezik_c.a "$archive"
 }
 
 choose_library() {
@@ -68,9 +56,9 @@ choose_library() {
         library=$native
         ;;
     archive)
-        [ -e "$archive" ] || give_up "no archive at $archive: rt staticlib lanwezik proves and builds it (or try the stand-in: $0 standin)"
+        [ "$(uname -m)" = x86_64 ] || give_up "the library is x86-64, and this machine is not"
+        [ -e "$archive" ] || prove_archive
         library=$archive
-        [ "$(uname -m)" = x86_64 ] || choose_cross
         ;;
     esac
 }

@@ -7,7 +7,8 @@ usage: python3 tools/respell.py            once, at the top, right after /opt/ra
 It reads every .antt file of crates/ and gathers what is declared there. A name with a dash or a capital within is turned, in
 all .antt files and in the clauses and `ghost use` lines of all .rt files. Where a definition and a lemma fall together, the
 lemma gets `_lem`. Functions of src/, fields and labels of src/, exported names and strings are not touched.
-The rows are written to tools/respelled.tsv, by which edits and pages are brought over.
+The rows are written to tools/respelled.tsv, by which edits and pages are brought over. Where that file is there already, its rows are
+taken, so that another checkout of the same crates gets the same names.
 """
 import collections
 import os
@@ -108,6 +109,9 @@ def turned(text, table, comment):
 
 def main():
     table, tokens = rows()
+    kept = os.path.join(TOP, "tools/respelled.tsv")
+    if os.path.exists(kept):
+        table = dict(l.rstrip("\n").split("\t") for l in open(kept, encoding="utf-8"))
     if "--table" in sys.argv:
         for o, n in sorted(table.items()):
             print(f"{o}\t{n}")

@@ -216,7 +216,7 @@ def one_pair(was, now, old, new, maps):
         return now.count(text) == 1 and it < end and it + len(text) > start
 
     # 1. the same text, where each of its tokens is what it was
-    if there(old) and turned_text(new, maps) == tight(new) and tight(old) == turned_text(old, maps):
+    if there(old) and turned_text(new, maps) == new and turned_text(old, maps) == old:
         return after, now.replace(old, new), old, new
     # 2. the edit's texts as they are spelled today
     o, n = turned_text(old, maps), turned_text(new, maps)

@@ -1,5 +1,6 @@
 // The rules of CP, OG, ZC and ST: from the values at a block's pin and words, its settings and its old place to its new place.
 #![tactic(auto)]
+
 ghost use Rattle.std.specs.Prelude.{◌≡◌, not, ◌&&◌, pos};
 ghost use Rattle.std.specs.Int.Signed.{le_z};
 ghost use Rattle.terms.specs.Words.{hold_word};

@@ -1,5 +1,6 @@
 // What the calls answer: by value, and where the state is kept in arrays; and the answers that refuse.
 #![tactic(auto)]
+
 ghost use Rattle.std.specs.Prelude.{◌≡◌};
 ghost use Rattle.program.specs.Acceptance.{accepted};
 ghost use Rattle.calls.specs.InPlace.{refused_answer, refused_taken, refused_after};

@@ -1,7 +1,9 @@
 // The calls on a state that a console keeps in arrays: written in place, or left as it is by a refusal.
 #![tactic(auto)]
+
 ghost use Rattle.std.specs.Prelude.{◌≡◌};
-ghost use Rattle.image.specs.Lent.{before, after};
+ghost use Rattle.image.specs.Image.{columns, image};
+ghost use Rattle.image.specs.Lent.{log_before, log_after, before, after};
 ghost use Rattle.scanning.specs.Scan.{inputs};
 ghost use Rattle.calls.specs.InPlace.{scanned_in, after_scan, taken_in, after_take};
 
@@ -60,8 +62,9 @@ pub fn take_in(
     pins: &[u8; 200],
     outputs: &[u8; 200],
 ) -> TakeAnswer
-    ensures value { result ≡ taken_in (before counts times numbers ticks words pins outputs) }
-    ensures after { after counts times numbers ticks words pins outputs ≡ after_take (before counts times numbers ticks words pins outputs) }
+    ensures value { result ≡ taken_in (image (log_before counts times numbers) (columns ticks.now words.now pins.now outputs.now)) }
+    ensures after { image (log_after counts times numbers) (columns ticks.now words.now pins.now outputs.now)
+        ≡ after_take (image (log_before counts times numbers) (columns ticks.now words.now pins.now outputs.now)) }
 {
     image::columns_sized(ticks, words, pins, outputs);
     if !inspection::good(counts, times, numbers, ticks, words, pins, outputs) {

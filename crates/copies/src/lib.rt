@@ -1,5 +1,6 @@
 // The first n places, copied between the columns of an image and the arrays of a scan.
 #![tactic(auto)]
+
 ghost use Rattle.std.specs.Prelude.{map, ◌≡◌, ◌≤◌, drop};
 ghost use Rattle.terms.specs.Bits.{digit};
 ghost use Rattle.copies.specs.Copies.{over};

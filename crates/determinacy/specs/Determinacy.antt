@@ -1,122 +1,122 @@
 -- Document 01, "What the contracts owe": "Each public function's contract gives one possible answer and one possible state for each input".
--- `Learnt` of a function is what its contract tells a caller, as Rattle reads it off the source: of lifetimes, arguments, answer and what is
--- lent, at exit.
+-- `clauses` of a function is its contract, as Rattle reads it off the source; `learnt` is what its `ensures` says of an answer and of what is lent, at exit.
 use Rattle.std.specs.Prelude.{Bool, List, ◌≡◌, ℕ, ℤ}
-use Rattle.std.specs.Borrow.{Bor}
+use Rattle.std.specs.Borrow.{MutBor}
+use seplogic.Ra.Ura.{Ura}
+use base.Logic.{SProp}
+use types.Logic.{Logic}
+use contract.Lifetimes.{Lfts}
+use contract.Monad.{Fun}
+use contract.Notation.{Connectives, connectives}
+use denote.Triple.Clauses.{Ended, Clauses, AtExit}
+use denote.Triple.Entry.{Args, Res}
+use prog.Memory.{Memory}
+use prog.Routine.{Routine}
 use Rattle.image.specs.Image.{Log, log, Columns, columns, Image, image}
 use Rattle.turns.specs.Arrays.{Arrays, arrays}
-use Rattle.terms.proofs.signed.Reads as terms_signed
-use Rattle.terms.proofs.hold.Reads as terms_hold
-use Rattle.wire.proofs.number.Reads as wire_number
-use Rattle.place.proofs.Place.fresh.Reads as place_fresh
-use Rattle.place.proofs.Place.pin.Reads as place_pin
-use Rattle.place.proofs.Place.first_rises.Reads as place_first_rises
-use Rattle.place.proofs.Place.first_falls.Reads as place_first_falls
-use Rattle.place.proofs.Place.second_rises.Reads as place_second_rises
-use Rattle.place.proofs.Place.either_differs.Reads as place_either_differs
-use Rattle.place.proofs.pack.Reads as place_pack
-use Rattle.switches.proofs.bl.Reads as switches_bl
-use Rattle.switches.proofs.sr.Reads as switches_sr
-use Rattle.switches.proofs.pl.Reads as switches_pl
-use Rattle.switches.proofs.al.Reads as switches_al
-use Rattle.timers.proofs.dl.Reads as timers_dl
-use Rattle.timers.proofs.os.Reads as timers_os
-use Rattle.timers.proofs.fl.Reads as timers_fl
-use Rattle.counters.proofs.cn.Reads as counters_cn
-use Rattle.counters.proofs.ud.Reads as counters_ud
-use Rattle.analog.proofs.cp.Reads as analog_cp
-use Rattle.analog.proofs.og.Reads as analog_og
-use Rattle.analog.proofs.zc.Reads as analog_zc
-use Rattle.analog.proofs.st.Reads as analog_st
-use Rattle.journal.proofs.Entry.zero.Reads as journal_entry_zero
-use Rattle.journal.proofs.rises.Reads as journal_rises
-use Rattle.journal.proofs.Journal.fresh.Reads as journal_journal_fresh
-use Rattle.journal.proofs.Journal.rise.Reads as journal_journal_rise
-use Rattle.journal.proofs.Journal.take.Reads as journal_journal_take
-use Rattle.image.proofs.State.fresh.Reads as image_state_fresh
-use Rattle.image.proofs.fresh_in.Reads as image_fresh_in
-use Rattle.image.proofs.journal_in.Reads as image_journal_in
-use Rattle.image.proofs.put_journal.Reads as image_put_journal
-use Rattle.inspection.proofs.good.Reads as inspection_good
-use Rattle.inspection.proofs.is_late.Reads as inspection_is_late
-use Rattle.log_book.proofs.close.Reads as logbook_close
-use Rattle.log_book.proofs.hand_out.Reads as logbook_hand_out
-use Rattle.copies.proofs.copy_ticks.Reads as copies_copy_ticks
-use Rattle.copies.proofs.copy_pins.Reads as copies_copy_pins
-use Rattle.loading.proofs.load_bits.Reads as loading_load_bits
-use Rattle.loading.proofs.load_words.Reads as loading_load_words
-use Rattle.copies.proofs.store_words.Reads as copies_store_words
-use Rattle.copies.proofs.store_outputs.Reads as copies_store_outputs
-use Rattle.numbers.proofs.read_number.Reads as numbers_read_number
-use Rattle.nodes.proofs.head.Reads as nodes_head
-use Rattle.nodes.proofs.pass.Reads as nodes_pass
-use Rattle.spelling.proofs.byte_at.Reads as spelling_byte_at
-use Rattle.spelling.proofs.skip_spaces.Reads as spelling_skip_spaces
-use Rattle.spelling.proofs.read_name.Reads as spelling_read_name
-use Rattle.spelling.proofs.read_sign.Reads as spelling_read_sign
-use Rattle.nodelist.proofs.put.Reads as nodelist_put
-use Rattle.nodelist.proofs.insert.Reads as nodelist_insert
-use Rattle.parsing.proofs.list_nodes.Reads as parsing_list_nodes
-use Rattle.formula.proofs.read_formula.Reads as formula_read_formula
-use Rattle.kinds.proofs.memory_of.Reads as kinds_memory_of
-use Rattle.kinds.proofs.figure_of.Reads as kinds_figure_of
-use Rattle.kinds.proofs.mark_of.Reads as kinds_mark_of
-use Rattle.block.proofs.read_row.Reads as block_read_row
-use Rattle.block.proofs.read_block.Reads as block_read_block
-use Rattle.program.proofs.accept.Reads as program_accept
-use Rattle.expression.proofs.eval.Reads as expression_eval
-use Rattle.rules.proofs.apply.Reads as rules_apply
-use Rattle.running.proofs.turn.Reads as running_turn
-use Rattle.turns.proofs.turns.Reads as turns_turns
-use Rattle.trial.proofs.refused.Reads as trial_refused
-use Rattle.trial.proofs.try_program.Reads as trial_try_program
-use Rattle.scanning.proofs.run.Reads as scanning_run
-use Rattle.calls.proofs.refuse_after.Reads as calls_refuse_after
-use Rattle.calls.proofs.refuse_take.Reads as calls_refuse_take
-use Rattle.console.proofs.scan_in.Reads as console_scan_in
-use Rattle.console.proofs.take_in.Reads as console_take_in
-use Rattle.states.proofs.put_state.Reads as states_put_state
-use Rattle.states.proofs.state_in.Reads as states_state_in
-use Rattle.hall.proofs.scan.Reads as hall_scan
-use Rattle.hall.proofs.take.Reads as hall_take
-use Rattle.lanwezik.proofs.lanwezik_accept.Reads as lanwezik_accept
-use Rattle.lanwezik.proofs.lanwezik_formula.Reads as lanwezik_formula
-use Rattle.lanwezik.proofs.lanwezik_fresh_in.Reads as lanwezik_fresh_in
-use Rattle.lanwezik.proofs.lanwezik_scan_in.Reads as lanwezik_scan_in
-use Rattle.lanwezik.proofs.lanwezik_take_in.Reads as lanwezik_take_in
-use Rattle.text.proofs.put.Reads as text_put
-use Rattle.text.proofs.put_number.Reads as text_put_number
-use Rattle.lines.proofs.write_line.Reads as lines_write_line
-use Rattle.lines.proofs.write_refused.Reads as lines_write_refused
-use Rattle.lines.proofs.write_bad_scan.Reads as lines_write_bad_scan
-use Rattle.lines.proofs.write_bad_program.Reads as lines_write_bad_program
-use Rattle.recording.proofs.read_scan.Reads as recording_read_scan
-use Rattle.recording.proofs.read_head.Reads as recording_read_head
-use Rattle.playback.proofs.next_scan.Reads as playback_next_scan
-use Rattle.playback.proofs.open_recording.Reads as playback_open_recording
-use Rattle.telling.proofs.Player.fresh.Reads as telling_player_fresh
-use Rattle.telling.proofs.ended.Reads as telling_ended
-use Rattle.telling.proofs.play.Reads as telling_play
-use Rattle.feeding.proofs.feed.Reads as feeding_feed
-use Rattle.feeding.proofs.finish.Reads as feeding_finish
-use Rattle.reading.proofs.told_by.Reads as reading_told_by
-use Rattle.reading.proofs.move_down.Reads as reading_move_down
-use Rattle.keeping.proofs.feed_window.Reads as keeping_feed_window
-use Rattle.intake.proofs.go_on.Reads as intake_go_on
-use Rattle.io.proofs.buffer.Reads as io-buffer
-
--- any two answers that meet a contract on the same arguments are equal
-abbrev pub Determined : {K : Type 0} {A B E : K → Type 0} → ((κ : K) → A κ → B κ → E κ → Type 0) → Type 0
-Determined {K} {A} {B} {E} Learnt = (κ : K) (a : A κ) (x y : B κ) (u v : E κ) → Learnt κ a x u → Learnt κ a y v → x ≡ y
-
--- the same of the answer and of what a buffer lent for writing holds at exit
-abbrev pub DeterminedWith : {L : Type 0} {K : Type 0} {A B E : K → Type 0} → ((κ : K) → E κ → L) → ((κ : K) → A κ → B κ → E κ → Type 0) → Type 0
-DeterminedWith {L} {K} {A} {B} {E} lent Learnt =
-    (κ : K) (a : A κ) (x y : B κ) (u v : E κ) → Learnt κ a x u → Learnt κ a y v → (x ≡ y) × (lent κ u ≡ lent κ v)
+use Rattle.terms.specs.contracts.signed as terms_signed
+use Rattle.terms.specs.contracts.hold as terms_hold
+use Rattle.wire.specs.contracts.number as wire_number
+use Rattle.place.specs.contracts.Place.fresh as place_fresh
+use Rattle.place.specs.contracts.Place.pin as place_pin
+use Rattle.place.specs.contracts.Place.first_rises as place_first_rises
+use Rattle.place.specs.contracts.Place.first_falls as place_first_falls
+use Rattle.place.specs.contracts.Place.second_rises as place_second_rises
+use Rattle.place.specs.contracts.Place.either_differs as place_either_differs
+use Rattle.place.specs.contracts.pack as place_pack
+use Rattle.switches.specs.contracts.bl as switches_bl
+use Rattle.switches.specs.contracts.sr as switches_sr
+use Rattle.switches.specs.contracts.pl as switches_pl
+use Rattle.switches.specs.contracts.al as switches_al
+use Rattle.timers.specs.contracts.dl as timers_dl
+use Rattle.timers.specs.contracts.os as timers_os
+use Rattle.timers.specs.contracts.fl as timers_fl
+use Rattle.counters.specs.contracts.cn as counters_cn
+use Rattle.counters.specs.contracts.ud as counters_ud
+use Rattle.analog.specs.contracts.cp as analog_cp
+use Rattle.analog.specs.contracts.og as analog_og
+use Rattle.analog.specs.contracts.zc as analog_zc
+use Rattle.analog.specs.contracts.st as analog_st
+use Rattle.journal.specs.contracts.Entry.zero as journal_entry_zero
+use Rattle.journal.specs.contracts.rises as journal_rises
+use Rattle.journal.specs.contracts.Journal.fresh as journal_journal_fresh
+use Rattle.journal.specs.contracts.Journal.rise as journal_journal_rise
+use Rattle.journal.specs.contracts.Journal.take as journal_journal_take
+use Rattle.image.specs.contracts.State.fresh as image_state_fresh
+use Rattle.image.specs.contracts.fresh_in as image_fresh_in
+use Rattle.image.specs.contracts.journal_in as image_journal_in
+use Rattle.image.specs.contracts.put_journal as image_put_journal
+use Rattle.inspection.specs.contracts.good as inspection_good
+use Rattle.inspection.specs.contracts.is_late as inspection_is_late
+use Rattle.log_book.specs.contracts.close as logbook_close
+use Rattle.log_book.specs.contracts.hand_out as logbook_hand_out
+use Rattle.copies.specs.contracts.copy_ticks as copies_copy_ticks
+use Rattle.copies.specs.contracts.copy_pins as copies_copy_pins
+use Rattle.loading.specs.contracts.load_bits as loading_load_bits
+use Rattle.loading.specs.contracts.load_words as loading_load_words
+use Rattle.copies.specs.contracts.store_words as copies_store_words
+use Rattle.copies.specs.contracts.store_outputs as copies_store_outputs
+use Rattle.numbers.specs.contracts.read_number as numbers_read_number
+use Rattle.nodes.specs.contracts.head as nodes_head
+use Rattle.nodes.specs.contracts.pass as nodes_pass
+use Rattle.spelling.specs.contracts.byte_at as spelling_byte_at
+use Rattle.spelling.specs.contracts.skip_spaces as spelling_skip_spaces
+use Rattle.spelling.specs.contracts.read_name as spelling_read_name
+use Rattle.spelling.specs.contracts.read_sign as spelling_read_sign
+use Rattle.nodelist.specs.contracts.put as nodelist_put
+use Rattle.nodelist.specs.contracts.insert as nodelist_insert
+use Rattle.parsing.specs.contracts.list_nodes as parsing_list_nodes
+use Rattle.formula.specs.contracts.read_formula as formula_read_formula
+use Rattle.kinds.specs.contracts.memory_of as kinds_memory_of
+use Rattle.kinds.specs.contracts.figure_of as kinds_figure_of
+use Rattle.kinds.specs.contracts.mark_of as kinds_mark_of
+use Rattle.block.specs.contracts.read_row as block_read_row
+use Rattle.block.specs.contracts.read_block as block_read_block
+use Rattle.program.specs.contracts.accept as program_accept
+use Rattle.expression.specs.contracts.eval as expression_eval
+use Rattle.rules.specs.contracts.apply as rules_apply
+use Rattle.running.specs.contracts.turn as running_turn
+use Rattle.turns.specs.contracts.turns as turns_turns
+use Rattle.trial.specs.contracts.refused as trial_refused
+use Rattle.trial.specs.contracts.try_program as trial_try_program
+use Rattle.scanning.specs.contracts.run as scanning_run
+use Rattle.calls.specs.contracts.refuse_after as calls_refuse_after
+use Rattle.calls.specs.contracts.refuse_take as calls_refuse_take
+use Rattle.console.specs.contracts.scan_in as console_scan_in
+use Rattle.console.specs.contracts.take_in as console_take_in
+use Rattle.states.specs.contracts.put_state as states_put_state
+use Rattle.states.specs.contracts.state_in as states_state_in
+use Rattle.hall.specs.contracts.scan as hall_scan
+use Rattle.hall.specs.contracts.take as hall_take
+use Rattle.lanwezik.specs.contracts.lanwezik_accept as lanwezik_accept
+use Rattle.lanwezik.specs.contracts.lanwezik_formula as lanwezik_formula
+use Rattle.lanwezik.specs.contracts.lanwezik_fresh_in as lanwezik_fresh_in
+use Rattle.lanwezik.specs.contracts.lanwezik_scan_in as lanwezik_scan_in
+use Rattle.lanwezik.specs.contracts.lanwezik_take_in as lanwezik_take_in
+use Rattle.text.specs.contracts.put as text_put
+use Rattle.text.specs.contracts.put_number as text_put_number
+use Rattle.lines.specs.contracts.write_line as lines_write_line
+use Rattle.lines.specs.contracts.write_refused as lines_write_refused
+use Rattle.lines.specs.contracts.write_bad_scan as lines_write_bad_scan
+use Rattle.lines.specs.contracts.write_bad_program as lines_write_bad_program
+use Rattle.recording.specs.contracts.read_scan as recording_read_scan
+use Rattle.recording.specs.contracts.read_head as recording_read_head
+use Rattle.playback.specs.contracts.next_scan as playback_next_scan
+use Rattle.playback.specs.contracts.open_recording as playback_open_recording
+use Rattle.telling.specs.contracts.Player.fresh as telling_player_fresh
+use Rattle.telling.specs.contracts.ended as telling_ended
+use Rattle.telling.specs.contracts.play as telling_play
+use Rattle.feeding.specs.contracts.feed as feeding_feed
+use Rattle.feeding.specs.contracts.finish as feeding_finish
+use Rattle.reading.specs.contracts.told_by as reading_told_by
+use Rattle.reading.specs.contracts.move_down as reading_move_down
+use Rattle.keeping.specs.contracts.feed_window as keeping_feed_window
+use Rattle.intake.specs.contracts.go_on as intake_go_on
+use Rattle.io.specs.contracts.buffer as io_buffer
 
 -- an array at exit, and the log, the columns, the image and a scan's arrays that the parameters from one on are
 abbrev Exit : Type 0 → Type 0
-Exit A = Bor (List A)
+Exit A = MutBor (List A)
 
 abbrev pub log_from : {Z : Type 0} → Exit ℕ × (Exit ℕ × (Exit ℕ × Z)) → Log
 log_from u = log u.0.now u.1.0.now u.1.1.0.now
@@ -130,106 +130,136 @@ image_from u = image (log_from u) (columns_from u.1.1.1)
 abbrev pub arrays_from : {Z : Type 0} → Exit Bool × (Exit ℤ × (Exit ℕ × (Exit ℕ × Z))) → Arrays
 arrays_from u = arrays u.0.now u.1.0.now u.1.1.0.now u.1.1.1.0.now
 
-pub record Determinacy : Type 0 where
-  pub terms_signed : Determined terms_signed.Learnt
-  pub terms_hold : Determined terms_hold.Learnt
-  pub wire_number : Determined wire_number.Learnt
-  pub place_fresh : Determined place_fresh.Learnt
-  pub place_pin : Determined place_pin.Learnt
-  pub place_first_rises : Determined place_first_rises.Learnt
-  pub place_first_falls : Determined place_first_falls.Learnt
-  pub place_second_rises : Determined place_second_rises.Learnt
-  pub place_either_differs : Determined place_either_differs.Learnt
-  pub place_pack : Determined place_pack.Learnt
-  pub switches_bl : Determined switches_bl.Learnt
-  pub switches_sr : Determined switches_sr.Learnt
-  pub switches_pl : Determined switches_pl.Learnt
-  pub switches_al : Determined switches_al.Learnt
-  pub timers_dl : Determined timers_dl.Learnt
-  pub timers_os : Determined timers_os.Learnt
-  pub timers_fl : Determined timers_fl.Learnt
-  pub counters_cn : Determined counters_cn.Learnt
-  pub counters_ud : Determined counters_ud.Learnt
-  pub analog_cp : Determined analog_cp.Learnt
-  pub analog_og : Determined analog_og.Learnt
-  pub analog_zc : Determined analog_zc.Learnt
-  pub analog_st : Determined analog_st.Learnt
-  pub journal_entry_zero : Determined journal_entry_zero.Learnt
-  pub journal_rises : Determined journal_rises.Learnt
-  pub journal_journal_fresh : Determined journal_journal_fresh.Learnt
-  pub journal_journal_rise : Determined journal_journal_rise.Learnt
-  pub journal_journal_take : Determined journal_journal_take.Learnt
-  pub image_state_fresh : Determined image_state_fresh.Learnt
-  pub image_fresh_in : DeterminedWith (λ κ u. image_from u) image_fresh_in.Learnt
-  pub image_journal_in : Determined image_journal_in.Learnt
-  pub image_put_journal : DeterminedWith (λ κ u. log_from u.1) image_put_journal.Learnt
-  pub inspection_good : Determined inspection_good.Learnt
-  pub inspection_is_late : Determined inspection_is_late.Learnt
-  pub logbook_close : DeterminedWith (λ κ u. log_from u.1.1) logbook_close.Learnt
-  pub logbook_hand_out : DeterminedWith (λ κ u. log_from u) logbook_hand_out.Learnt
-  pub copies_copy_ticks : DeterminedWith (λ κ u. u.1.1.0.now) copies_copy_ticks.Learnt
-  pub copies_copy_pins : DeterminedWith (λ κ u. u.1.1.0.now) copies_copy_pins.Learnt
-  pub loading_load_bits : DeterminedWith (λ κ u. u.1.1.1.0.now) loading_load_bits.Learnt
-  pub loading_load_words : DeterminedWith (λ κ u. u.1.1.1.0.now) loading_load_words.Learnt
-  pub copies_store_words : DeterminedWith (λ κ u. u.1.1.0.now) copies_store_words.Learnt
-  pub copies_store_outputs : DeterminedWith (λ κ u. u.1.1.0.now) copies_store_outputs.Learnt
-  pub numbers_read_number : Determined numbers_read_number.Learnt
-  pub nodes_head : Determined nodes_head.Learnt
-  pub nodes_pass : Determined nodes_pass.Learnt
-  pub spelling_byte_at : Determined spelling_byte_at.Learnt
-  pub spelling_skip_spaces : Determined spelling_skip_spaces.Learnt
-  pub spelling_read_name : Determined spelling_read_name.Learnt
-  pub spelling_read_sign : Determined spelling_read_sign.Learnt
-  pub nodelist_put : DeterminedWith (λ κ u. u.0.now) nodelist_put.Learnt
-  pub nodelist_insert : DeterminedWith (λ κ u. u.0.now) nodelist_insert.Learnt
-  pub parsing_list_nodes : Determined parsing_list_nodes.Learnt
-  pub formula_read_formula : Determined formula_read_formula.Learnt
-  pub kinds_memory_of : Determined kinds_memory_of.Learnt
-  pub kinds_figure_of : Determined kinds_figure_of.Learnt
-  pub kinds_mark_of : Determined kinds_mark_of.Learnt
-  pub block_read_row : Determined block_read_row.Learnt
-  pub block_read_block : Determined block_read_block.Learnt
-  pub program_accept : Determined program_accept.Learnt
-  pub expression_eval : Determined expression_eval.Learnt
-  pub rules_apply : Determined rules_apply.Learnt
-  pub running_turn : DeterminedWith (λ κ u. u.1.1.1.1.1.1.1.0.now) running_turn.Learnt
-  pub turns_turns : DeterminedWith (λ κ u. arrays_from u.1.1.1.1.1) turns_turns.Learnt
-  pub trial_refused : Determined trial_refused.Learnt
-  pub trial_try_program : DeterminedWith (λ κ u. arrays_from u.1.1.1.1) trial_try_program.Learnt
-  pub scanning_run : DeterminedWith (λ κ u. columns_from u.1.1.1.1) scanning_run.Learnt
-  pub calls_refuse_after : Determined calls_refuse_after.Learnt
-  pub calls_refuse_take : Determined calls_refuse_take.Learnt
-  pub console_scan_in : DeterminedWith (λ κ u. image_from u.1) console_scan_in.Learnt
-  pub console_take_in : DeterminedWith (λ κ u. image_from u) console_take_in.Learnt
-  pub states_put_state : DeterminedWith (λ κ u. image_from u.1) states_put_state.Learnt
-  pub states_state_in : Determined states_state_in.Learnt
-  pub hall_scan : Determined hall_scan.Learnt
-  pub hall_take : Determined hall_take.Learnt
-  pub lanwezik_accept : Determined lanwezik_accept.Learnt
-  pub lanwezik_fresh_in : DeterminedWith (λ κ u. image_from u) lanwezik_fresh_in.Learnt
-  pub lanwezik_scan_in : DeterminedWith (λ κ u. image_from u.1) lanwezik_scan_in.Learnt
-  pub lanwezik_take_in : DeterminedWith (λ κ u. image_from u) lanwezik_take_in.Learnt
-  pub lanwezik_formula : Determined lanwezik_formula.Learnt
-  pub text_put : DeterminedWith (λ κ u. u.0.now) text_put.Learnt
-  pub text_put_number : DeterminedWith (λ κ u. u.0.now) text_put_number.Learnt
-  pub lines_write_line : DeterminedWith (λ κ u. u.0.now) lines_write_line.Learnt
-  pub lines_write_refused : DeterminedWith (λ κ u. u.0.now) lines_write_refused.Learnt
-  pub lines_write_bad_scan : DeterminedWith (λ κ u. u.0.now) lines_write_bad_scan.Learnt
-  pub lines_write_bad_program : DeterminedWith (λ κ u. u.0.now) lines_write_bad_program.Learnt
-  pub recording_read_scan : Determined recording_read_scan.Learnt
-  pub recording_read_head : Determined recording_read_head.Learnt
-  pub playback_next_scan : Determined playback_next_scan.Learnt
-  pub playback_open_recording : DeterminedWith (λ κ u. u.1.0.now) playback_open_recording.Learnt
-  pub telling_player_fresh : Determined telling_player_fresh.Learnt
-  pub telling_ended : Determined telling_ended.Learnt
-  pub telling_play : DeterminedWith (λ κ u. u.1.1.1.1.0.now) telling_play.Learnt
-  pub feeding_feed : DeterminedWith {L = List ℕ × List ℕ} (λ κ u. (u.1.1.0.now, u.1.1.1.0.now)) feeding_feed.Learnt
-  pub feeding_finish : DeterminedWith (λ κ u. u.1.1.0.now) feeding_finish.Learnt
-  pub reading_told_by : Determined reading_told_by.Learnt
-  pub reading_move_down : DeterminedWith (λ κ u. u.0.now) reading_move_down.Learnt
-  pub keeping_feed_window : DeterminedWith {L = List ℕ × (List ℕ × List ℕ)}
-      (λ κ u. (u.0.now, (u.1.1.1.0.now, u.1.1.1.1.0.now))) keeping_feed_window.Learnt
-  pub intake_go_on : DeterminedWith {L = List ℕ × (List ℕ × List ℕ)}
-      (λ κ u. (u.1.0.now, (u.1.1.1.0.now, u.1.1.1.1.0.now))) intake_go_on.Learnt
-  -- and a loose contract does not: all that the kit's `io::buffer` ensures is how long the buffer is
-  pub loose : Determined io-buffer.Learnt → ⊥
+module _ {M : Type 1} {𝓤 : Ura M} (𝓛 : Logic 𝓤) where
+  abbrev 𝓝 : Connectives 𝓤
+  𝓝 = connectives 𝓤
+
+  open 𝓝 use {⌜◌⌝, ∀ₛ, ∃ₛ, ◌∧ₛ◌, ◌∨ₛ◌, ◌→ₛ◌, ◌∗◌, ◌-∗◌, ⊤ₛ, ⊥ₛ, ◌>>◌}
+
+  -- a contract: it may speak of the memory and of what runs, which no contract here does
+  abbrev pub Contract : Ended → Type 2
+  Contract T = (Memory → SProp 𝓤) → (Routine → Fun 𝓤) → Clauses 𝓤 T
+
+  abbrev pub Ghost : (T : Ended) → Contract T → (κs : Lfts T.signature.lifetimes) → Args T.signature κs → Type 0
+  Ghost T c κs a = (c (λ _. ⊤ₛ) (λ _ vs k. ⊤ₛ) κs a).ghost
+
+  abbrev pub learnt : (T : Ended) (c : Contract T) (κs : Lfts T.signature.lifetimes) (a : Args T.signature κs) →
+      Ghost T c κs a → Res T.signature κs → AtExit T κs → SProp 𝓤
+  learnt T c κs a g x u = (c (λ _. ⊤ₛ) (λ _ vs k. ⊤ₛ) κs a).ensures g x u
+
+  -- any two answers that meet a contract on the same arguments are equal
+  abbrev pub Determined : (T : Ended) → Contract T → SProp 𝓤
+  Determined T c =
+      ∀ₛ (λ (κs : Lfts T.signature.lifetimes). ∀ₛ (λ (a : Args T.signature κs). ∀ₛ (λ (g : Ghost T c κs a).
+      ∀ₛ (λ (x : Res T.signature κs). ∀ₛ (λ (y : Res T.signature κs). ∀ₛ (λ (u : AtExit T κs). ∀ₛ (λ (v : AtExit T κs).
+      (learnt T c κs a g x u ∧ₛ learnt T c κs a g y v) →ₛ ⌜ x ≡ y ⌝)))))))
+
+  -- the same of the answer and of what a buffer lent for writing holds at exit
+  abbrev pub DeterminedWith : {L : Type 0} (T : Ended) → Contract T → ((κs : Lfts T.signature.lifetimes) → AtExit T κs → L) → SProp 𝓤
+  DeterminedWith T c lent =
+      ∀ₛ (λ (κs : Lfts T.signature.lifetimes). ∀ₛ (λ (a : Args T.signature κs). ∀ₛ (λ (g : Ghost T c κs a).
+      ∀ₛ (λ (x : Res T.signature κs). ∀ₛ (λ (y : Res T.signature κs). ∀ₛ (λ (u : AtExit T κs). ∀ₛ (λ (v : AtExit T κs).
+      (learnt T c κs a g x u ∧ₛ learnt T c κs a g y v) →ₛ ⌜ (x ≡ y) × (lent κs u ≡ lent κs v) ⌝)))))))
+
+  abbrev pub Determinacy : SProp 𝓤
+  Determinacy =
+      Determined terms_signed.ended (terms_signed.clauses 𝓛)
+      ∧ₛ Determined terms_hold.ended (terms_hold.clauses 𝓛)
+      ∧ₛ Determined wire_number.ended (wire_number.clauses 𝓛)
+      ∧ₛ Determined place_fresh.ended (place_fresh.clauses 𝓛)
+      ∧ₛ Determined place_pin.ended (place_pin.clauses 𝓛)
+      ∧ₛ Determined place_first_rises.ended (place_first_rises.clauses 𝓛)
+      ∧ₛ Determined place_first_falls.ended (place_first_falls.clauses 𝓛)
+      ∧ₛ Determined place_second_rises.ended (place_second_rises.clauses 𝓛)
+      ∧ₛ Determined place_either_differs.ended (place_either_differs.clauses 𝓛)
+      ∧ₛ Determined place_pack.ended (place_pack.clauses 𝓛)
+      ∧ₛ Determined switches_bl.ended (switches_bl.clauses 𝓛)
+      ∧ₛ Determined switches_sr.ended (switches_sr.clauses 𝓛)
+      ∧ₛ Determined switches_pl.ended (switches_pl.clauses 𝓛)
+      ∧ₛ Determined switches_al.ended (switches_al.clauses 𝓛)
+      ∧ₛ Determined timers_dl.ended (timers_dl.clauses 𝓛)
+      ∧ₛ Determined timers_os.ended (timers_os.clauses 𝓛)
+      ∧ₛ Determined timers_fl.ended (timers_fl.clauses 𝓛)
+      ∧ₛ Determined counters_cn.ended (counters_cn.clauses 𝓛)
+      ∧ₛ Determined counters_ud.ended (counters_ud.clauses 𝓛)
+      ∧ₛ Determined analog_cp.ended (analog_cp.clauses 𝓛)
+      ∧ₛ Determined analog_og.ended (analog_og.clauses 𝓛)
+      ∧ₛ Determined analog_zc.ended (analog_zc.clauses 𝓛)
+      ∧ₛ Determined analog_st.ended (analog_st.clauses 𝓛)
+      ∧ₛ Determined journal_entry_zero.ended (journal_entry_zero.clauses 𝓛)
+      ∧ₛ Determined journal_rises.ended (journal_rises.clauses 𝓛)
+      ∧ₛ Determined journal_journal_fresh.ended (journal_journal_fresh.clauses 𝓛)
+      ∧ₛ Determined journal_journal_rise.ended (journal_journal_rise.clauses 𝓛)
+      ∧ₛ Determined journal_journal_take.ended (journal_journal_take.clauses 𝓛)
+      ∧ₛ Determined image_state_fresh.ended (image_state_fresh.clauses 𝓛)
+      ∧ₛ DeterminedWith image_fresh_in.ended (image_fresh_in.clauses 𝓛) (λ κ u. image_from u)
+      ∧ₛ Determined image_journal_in.ended (image_journal_in.clauses 𝓛)
+      ∧ₛ DeterminedWith image_put_journal.ended (image_put_journal.clauses 𝓛) (λ κ u. log_from u.1)
+      ∧ₛ Determined inspection_good.ended (inspection_good.clauses 𝓛)
+      ∧ₛ Determined inspection_is_late.ended (inspection_is_late.clauses 𝓛)
+      ∧ₛ DeterminedWith logbook_close.ended (logbook_close.clauses 𝓛) (λ κ u. log_from u.1.1)
+      ∧ₛ DeterminedWith logbook_hand_out.ended (logbook_hand_out.clauses 𝓛) (λ κ u. log_from u)
+      ∧ₛ DeterminedWith copies_copy_ticks.ended (copies_copy_ticks.clauses 𝓛) (λ κ u. u.1.1.0.now)
+      ∧ₛ DeterminedWith copies_copy_pins.ended (copies_copy_pins.clauses 𝓛) (λ κ u. u.1.1.0.now)
+      ∧ₛ DeterminedWith loading_load_bits.ended (loading_load_bits.clauses 𝓛) (λ κ u. u.1.1.1.0.now)
+      ∧ₛ DeterminedWith loading_load_words.ended (loading_load_words.clauses 𝓛) (λ κ u. u.1.1.1.0.now)
+      ∧ₛ DeterminedWith copies_store_words.ended (copies_store_words.clauses 𝓛) (λ κ u. u.1.1.0.now)
+      ∧ₛ DeterminedWith copies_store_outputs.ended (copies_store_outputs.clauses 𝓛) (λ κ u. u.1.1.0.now)
+      ∧ₛ Determined numbers_read_number.ended (numbers_read_number.clauses 𝓛)
+      ∧ₛ Determined nodes_head.ended (nodes_head.clauses 𝓛)
+      ∧ₛ Determined nodes_pass.ended (nodes_pass.clauses 𝓛)
+      ∧ₛ Determined spelling_byte_at.ended (spelling_byte_at.clauses 𝓛)
+      ∧ₛ Determined spelling_skip_spaces.ended (spelling_skip_spaces.clauses 𝓛)
+      ∧ₛ Determined spelling_read_name.ended (spelling_read_name.clauses 𝓛)
+      ∧ₛ Determined spelling_read_sign.ended (spelling_read_sign.clauses 𝓛)
+      ∧ₛ DeterminedWith nodelist_put.ended (nodelist_put.clauses 𝓛) (λ κ u. u.0.now)
+      ∧ₛ DeterminedWith nodelist_insert.ended (nodelist_insert.clauses 𝓛) (λ κ u. u.0.now)
+      ∧ₛ Determined parsing_list_nodes.ended (parsing_list_nodes.clauses 𝓛)
+      ∧ₛ Determined formula_read_formula.ended (formula_read_formula.clauses 𝓛)
+      ∧ₛ Determined kinds_memory_of.ended (kinds_memory_of.clauses 𝓛)
+      ∧ₛ Determined kinds_figure_of.ended (kinds_figure_of.clauses 𝓛)
+      ∧ₛ Determined kinds_mark_of.ended (kinds_mark_of.clauses 𝓛)
+      ∧ₛ Determined block_read_row.ended (block_read_row.clauses 𝓛)
+      ∧ₛ Determined block_read_block.ended (block_read_block.clauses 𝓛)
+      ∧ₛ Determined program_accept.ended (program_accept.clauses 𝓛)
+      ∧ₛ Determined expression_eval.ended (expression_eval.clauses 𝓛)
+      ∧ₛ Determined rules_apply.ended (rules_apply.clauses 𝓛)
+      ∧ₛ DeterminedWith running_turn.ended (running_turn.clauses 𝓛) (λ κ u. u.1.1.1.1.1.1.1.0.now)
+      ∧ₛ DeterminedWith turns_turns.ended (turns_turns.clauses 𝓛) (λ κ u. arrays_from u.1.1.1.1.1)
+      ∧ₛ Determined trial_refused.ended (trial_refused.clauses 𝓛)
+      ∧ₛ DeterminedWith trial_try_program.ended (trial_try_program.clauses 𝓛) (λ κ u. arrays_from u.1.1.1.1)
+      ∧ₛ DeterminedWith scanning_run.ended (scanning_run.clauses 𝓛) (λ κ u. columns_from u.1.1.1.1)
+      ∧ₛ Determined calls_refuse_after.ended (calls_refuse_after.clauses 𝓛)
+      ∧ₛ Determined calls_refuse_take.ended (calls_refuse_take.clauses 𝓛)
+      ∧ₛ DeterminedWith console_scan_in.ended (console_scan_in.clauses 𝓛) (λ κ u. image_from u.1)
+      ∧ₛ DeterminedWith console_take_in.ended (console_take_in.clauses 𝓛) (λ κ u. image_from u)
+      ∧ₛ DeterminedWith states_put_state.ended (states_put_state.clauses 𝓛) (λ κ u. image_from u.1)
+      ∧ₛ Determined states_state_in.ended (states_state_in.clauses 𝓛)
+      ∧ₛ Determined hall_scan.ended (hall_scan.clauses 𝓛)
+      ∧ₛ Determined hall_take.ended (hall_take.clauses 𝓛)
+      ∧ₛ Determined lanwezik_accept.ended (lanwezik_accept.clauses 𝓛)
+      ∧ₛ DeterminedWith lanwezik_fresh_in.ended (lanwezik_fresh_in.clauses 𝓛) (λ κ u. image_from u)
+      ∧ₛ DeterminedWith lanwezik_scan_in.ended (lanwezik_scan_in.clauses 𝓛) (λ κ u. image_from u.1)
+      ∧ₛ DeterminedWith lanwezik_take_in.ended (lanwezik_take_in.clauses 𝓛) (λ κ u. image_from u)
+      ∧ₛ Determined lanwezik_formula.ended (lanwezik_formula.clauses 𝓛)
+      ∧ₛ DeterminedWith text_put.ended (text_put.clauses 𝓛) (λ κ u. u.0.now)
+      ∧ₛ DeterminedWith text_put_number.ended (text_put_number.clauses 𝓛) (λ κ u. u.0.now)
+      ∧ₛ DeterminedWith lines_write_line.ended (lines_write_line.clauses 𝓛) (λ κ u. u.0.now)
+      ∧ₛ DeterminedWith lines_write_refused.ended (lines_write_refused.clauses 𝓛) (λ κ u. u.0.now)
+      ∧ₛ DeterminedWith lines_write_bad_scan.ended (lines_write_bad_scan.clauses 𝓛) (λ κ u. u.0.now)
+      ∧ₛ DeterminedWith lines_write_bad_program.ended (lines_write_bad_program.clauses 𝓛) (λ κ u. u.0.now)
+      ∧ₛ Determined recording_read_scan.ended (recording_read_scan.clauses 𝓛)
+      ∧ₛ Determined recording_read_head.ended (recording_read_head.clauses 𝓛)
+      ∧ₛ Determined playback_next_scan.ended (playback_next_scan.clauses 𝓛)
+      ∧ₛ DeterminedWith playback_open_recording.ended (playback_open_recording.clauses 𝓛) (λ κ u. u.1.0.now)
+      ∧ₛ Determined telling_player_fresh.ended (telling_player_fresh.clauses 𝓛)
+      ∧ₛ Determined telling_ended.ended (telling_ended.clauses 𝓛)
+      ∧ₛ DeterminedWith telling_play.ended (telling_play.clauses 𝓛) (λ κ u. u.1.1.1.1.0.now)
+      ∧ₛ DeterminedWith {L = List ℕ × List ℕ} feeding_feed.ended (feeding_feed.clauses 𝓛) (λ κ u. (u.1.1.0.now, u.1.1.1.0.now))
+      ∧ₛ DeterminedWith feeding_finish.ended (feeding_finish.clauses 𝓛) (λ κ u. u.1.1.0.now)
+      ∧ₛ Determined reading_told_by.ended (reading_told_by.clauses 𝓛)
+      ∧ₛ DeterminedWith reading_move_down.ended (reading_move_down.clauses 𝓛) (λ κ u. u.0.now)
+      ∧ₛ DeterminedWith {L = List ℕ × (List ℕ × List ℕ)} keeping_feed_window.ended (keeping_feed_window.clauses 𝓛) (λ κ u. (u.0.now, (u.1.1.1.0.now, u.1.1.1.1.0.now)))
+      ∧ₛ DeterminedWith {L = List ℕ × (List ℕ × List ℕ)} intake_go_on.ended (intake_go_on.clauses 𝓛) (λ κ u. (u.1.0.now, (u.1.1.1.0.now, u.1.1.1.1.0.now)))
+      -- and a loose contract does not: all that the kit's `io::buffer` ensures is how long the buffer is
+      ∧ₛ (Determined io_buffer.ended (io_buffer.clauses 𝓛) →ₛ ⌜ ⊥ ⌝)

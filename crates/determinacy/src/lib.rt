@@ -4,5 +4,5 @@ ghost use Rattle.determinacy.specs.Determinacy.{Determinacy};
 
 // Each public function's contract gives one answer for each input: it does nothing when called.
 pub fn one_answer()
-    ensures { Determinacy }
+    ensures* { Determinacy 𝓛 }
 {}

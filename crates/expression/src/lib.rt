@@ -1,5 +1,6 @@
 // The evaluator of expressions, over their bytes: value and steps.
 #![tactic(auto)]
+
 ghost use Rattle.std.specs.Prelude.{◌≡◌, ◌≤◌, ◌-◌};
 ghost use Rattle.nodes.specs.Reading.{expr_at, passed};
 ghost use Rattle.expression.specs.Expression.{gate_of, skips_of, truth_table, skip_table, bit_in, valued, joined};

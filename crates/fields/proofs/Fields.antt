@@ -1,7 +1,7 @@
 -- One field of a line: when it is left out, and that it has a name; and one field before the rest. Assumes nothing.
 use Prim.Native.Nat.{ℕ, ◌+◌, ◌<◌, ◌≤◌}
 use mathlib.Core.Path.{◌≡◌, refl}
-use mathlib.Core.Bool.{Bool, true, false, ◌||◌}
+use mathlib.Core.Bool.{Bool, false, ◌||◌}
 use mathlib.Core.List.{List, [], ◌++◌}
 use native.Mathlib.Omega.{arith}
 use native.Mathlib.Numerals.{add-one}
@@ -10,7 +10,6 @@ use lib.Seq.{drop-cons}
 use lib.Dec.{T, eqb, ltb, ltb→lt}
 use borrow.Author.Tests.{ne_eqb}
 use Rattle.terms.proofs.Table.{every, at}
-use Rattle.numbers.specs.Types.{kind_count}
 use Rattle.words.specs.Words.{word_count}
 use Rattle.kinds.specs.Kinds.{LeftOut, never, reads, Field, Kind, kind, kinds, kind_of, fields_of}
 use Rattle.columns.specs.Columns.{no_field, field_of, left_code}

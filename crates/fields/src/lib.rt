@@ -1,5 +1,6 @@
 // The fields of a block's line, put as text by the numbers that carry them.
 #![tactic(auto)]
+
 ghost use Rattle.std.specs.Prelude.{◌≡◌, ◌∷◌, ◌++◌, ◌+◌, ◌<◌, ◌^◌};
 ghost use Rattle.filling.specs.Filling.{Put};
 ghost use Rattle.numbers.specs.Types.{kind_count};

@@ -6,6 +6,7 @@ use mathlib.Core.List.{List, [], ◌∷◌}
 use native.Mathlib.Omega.{arith}
 use lib.Dec.{eqb, leb}
 use borrow.Author.Tests.{eqb-true, eqb-false, leb-true, leb-false}
+use Rattle.terms.specs.Refusals.{outside}
 use Rattle.terms.proofs.Choice.{pick_case}
 use Rattle.wire.specs.Facts.{Bytes}
 use Rattle.wire.specs.Reading.{Read, got, fault}
@@ -77,6 +78,6 @@ module _ (m : Marks) (s : List ℕ) (bytes : Bytes s) where
   pub expr_form : (levels left at : ℕ) → TreeFormed levels left at (expr_at m levels left s at)
   unfolding expr_at head_at
   expr_form zero left at =
-      grow_form _ 0 (λ l n. stopped) 0 left at (λ z. absurd (omega arith)) (typed_at m node_number 0 s at) (typed_form m node_number 0 s at bytes)
+      grow_form (λ l n. fault outside n) 0 (λ l n. stopped) 0 left at (λ z. absurd (omega arith)) (typed_at m node_number 0 s at) (typed_form m node_number 0 s at bytes)
   expr_form (suc d) left at =
-      grow_form _ d (λ l n. expr_form d l n) (suc d) left at (λ _. refl) (typed_at m node_number 0 s at) (typed_form m node_number 0 s at bytes)
+      grow_form (λ l n. expr_at m d l s n) d (λ l n. expr_form d l n) (suc d) left at (λ _. refl) (typed_at m node_number 0 s at) (typed_form m node_number 0 s at bytes)

@@ -1,5 +1,6 @@
 // Formulas typed as text, within the bounds of an expression.
 #![tactic(auto)]
+
 ghost use Rattle.std.specs.Prelude.{◌≡◌};
 ghost use Rattle.formula.specs.Answers.{Answers, refused};
 

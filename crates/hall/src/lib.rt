@@ -1,5 +1,6 @@
 // The controller by value: a state is handed in and handed back. Each call puts it into arrays and is the call in place on them.
 #![tactic(auto)]
+
 ghost use Rattle.std.specs.Prelude.{◌≡◌, ◌≤◌};
 ghost use Rattle.program.specs.Acceptance.{accepted};
 ghost use Rattle.scanning.specs.Scan.{inputs};

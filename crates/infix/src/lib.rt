@@ -1,5 +1,6 @@
 // Expressions put as text, operators between their parts, with the fewest parentheses that keep the reading.
 #![tactic(auto)]
+
 ghost use Rattle.std.specs.Prelude.{◌≡◌, ◌+◌, ◌*◌, ◌<◌, ◌^◌};
 ghost use Rattle.wire.specs.Reading.{IsGot};
 ghost use Rattle.nodes.specs.Reading.{most_deep, most_nodes, expr_at};

@@ -1,5 +1,6 @@
 // What is known to stand in a program, read without refusals.
 #![tactic(auto)]
+
 ghost use Rattle.std.specs.Prelude.{◌≡◌, ◌<◌};
 ghost use Rattle.wire.specs.Reading.{got, IsGot, next_of};
 ghost use Rattle.numbers.specs.Types.{number_types, kind_count};

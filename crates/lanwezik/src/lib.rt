@@ -1,9 +1,10 @@
-// The controller's calls for programs in C: include/lanwezik.h has their declarations.
+// The controller's calls as a program in C makes them: the crate `lanwezik_c` exports each under its name, and include/lanwezik.h has their declarations.
 #![tactic(auto)]
+
 ghost use Rattle.std.specs.Prelude.{◌≡◌};
 ghost use Rattle.program.specs.Acceptance.{accepted};
-ghost use Rattle.image.specs.Image.{image_of};
-ghost use Rattle.image.specs.Lent.{before, after};
+ghost use Rattle.image.specs.Image.{columns, image, image_of};
+ghost use Rattle.image.specs.Lent.{log_before, log_after, before, after};
 ghost use Rattle.image.specs.State.{fresh_state};
 ghost use Rattle.calls.specs.InPlace.{scanned_in, after_scan, taken_in, after_take};
 ghost use Rattle.lanwezik.specs.Answers.{acceptance, scanned, given, inputs_of, Formulas};
@@ -58,8 +59,7 @@ pub struct Expression {
     pub nodes: [u8; 64],
 }
 
-#[unsafe(no_mangle)]
-pub extern "C" fn lanwezik_accept(program: &[u8]) -> Acceptance
+pub fn lanwezik_accept(program: &[u8]) -> Acceptance
     ensures { result ≡ acceptance (accepted program.now) }
 {
     let a = program::accept(program);
@@ -71,8 +71,7 @@ pub extern "C" fn lanwezik_accept(program: &[u8]) -> Acceptance
     }
 }
 
-#[unsafe(no_mangle)]
-pub extern "C" fn lanwezik_fresh_in(
+pub fn lanwezik_fresh_in(
     counts: &mut [u64; 4],
     times: &mut [u64; 32],
     numbers: &mut [u8; 32],
@@ -86,8 +85,7 @@ pub extern "C" fn lanwezik_fresh_in(
     image::fresh_in(counts, times, numbers, ticks, words, pins, outputs);
 }
 
-#[unsafe(no_mangle)]
-pub extern "C" fn lanwezik_scan_in(
+pub fn lanwezik_scan_in(
     program: &[u8],
     counts: &mut [u64; 4],
     times: &mut [u64; 32],
@@ -125,8 +123,7 @@ pub extern "C" fn lanwezik_scan_in(
     }
 }
 
-#[unsafe(no_mangle)]
-pub extern "C" fn lanwezik_take_in(
+pub fn lanwezik_take_in(
     counts: &mut [u64; 4],
     times: &mut [u64; 32],
     numbers: &mut [u8; 32],
@@ -135,8 +132,9 @@ pub extern "C" fn lanwezik_take_in(
     pins: &[u8; 200],
     outputs: &[u8; 200],
 ) -> Given
-    ensures value { result ≡ given (taken_in (before counts times numbers ticks words pins outputs)) }
-    ensures after { after counts times numbers ticks words pins outputs ≡ after_take (before counts times numbers ticks words pins outputs) }
+    ensures value { result ≡ given (taken_in (image (log_before counts times numbers) (columns ticks.now words.now pins.now outputs.now))) }
+    ensures after { image (log_after counts times numbers) (columns ticks.now words.now pins.now outputs.now)
+        ≡ after_take (image (log_before counts times numbers) (columns ticks.now words.now pins.now outputs.now)) }
 {
     let a = console::take_in(counts, times, numbers, ticks, words, pins, outputs);
     let e = a.entry;
@@ -149,8 +147,7 @@ pub extern "C" fn lanwezik_take_in(
     }
 }
 
-#[unsafe(no_mangle)]
-pub extern "C" fn lanwezik_formula(text: &[u8]) -> Expression
+pub fn lanwezik_formula(text: &[u8]) -> Expression
     ensures { Formulas text.now result }
 {
     let a = formula::read_formula(text);

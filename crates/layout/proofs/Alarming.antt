@@ -1,14 +1,11 @@
 -- The alarms' line: what is read of it is the text of its names, and the text of names is read as they are. Assumes nothing.
 use Prim.Native.Nat.{ℕ, zero, suc, ◌+◌, ◌-◌, ◌<◌, ◌≤◌}
-use mathlib.Core.Path.{◌≡◌, refl, sym, ap, subst, ◌∙◌}
-use mathlib.Core.Bool.{Bool, true, false}
+use mathlib.Core.Path.{◌≡◌, refl, subst, ◌∙◌}
 use mathlib.Core.List.{List, [], ◌∷◌, ◌++◌, map}
-use native.Mathlib.Nat.{add-zero}
 use native.Mathlib.Omega.{arith}
 use lib.ListN.{length, length-append, length-replicate, length-map}
 use lib.Dec.{ltb, leb}
-use borrow.Author.Tests.{lt-ltb, le-leb, lt-leb, leb-true, leb-false, ltb-true}
-use Rattle.terms.specs.Choice.{pick}
+use borrow.Author.Tests.{lt-ltb, le-leb, lt-leb, leb-true, ltb-true}
 use Rattle.terms.proofs.Choice.{pick_case}
 use Rattle.wire.specs.Number.{byte_at}
 use Rattle.wire.specs.Facts.{Stands}
@@ -17,7 +14,6 @@ use Rattle.numbers.specs.Types.{bit_ref}
 use Rattle.grammar.specs.Grammar.{space, spaces}
 use Rattle.grammar.specs.Machine.{Spans}
 use Rattle.grammar.proofs.From.{after}
-use Rattle.writing.specs.Expressions.{InRange}
 use Rattle.spelling.specs.declared.Named.{Named}
 use Rattle.spelling.specs.declared.Named.TheVariants.{Bit as BitName, NoName}
 use Rattle.spelling.specs.Spelling.{after_spaces, name_at}

@@ -1,39 +1,37 @@
 -- The fields of a line: what is read from a place on is the text of fields, and the text of fields is read as they are. Assumes nothing.
 use Prim.Native.Nat.{ℕ, zero, suc, ◌+◌, ◌-◌, ◌<◌, ◌≤◌}
 use mathlib.Core.Path.{◌≡◌, refl, sym, ap, ◌∙◌}
-use mathlib.Core.Bool.{Bool, true, false, not, ◌&&◌, ◌||◌}
-use mathlib.Core.List.{List, [], ◌∷◌, ◌++◌, append_assoc}
+use mathlib.Core.Bool.{Bool, true, false, ◌&&◌}
+use mathlib.Core.List.{List, [], ◌∷◌, ◌++◌}
 use native.Mathlib.Nat.{add-zero}
-use native.Mathlib.Omega.{arith, by_contra}
-use lib.ListN.{length, get_or, length-append, length-replicate, get_or-eq_default}
+use native.Mathlib.Omega.{arith}
+use lib.ListN.{length, length-append, length-replicate, get_or-eq_default}
 use lib.Dec.{ltb, leb, eqb}
-use borrow.Author.Tests.{lt-ltb, le-ltb, ltb-true, leb-true, le-leb, eqb-true, eqb-false, eq-eqb, ne_eqb}
-use Rattle.terms.specs.Choice.{pick, every}
-use Rattle.terms.proofs.Choice.{both, pick_case, never as not_both}
-use Rattle.terms.proofs.Every.{both_hold}
+use borrow.Author.Tests.{lt-ltb, ltb-true, leb-true, le-leb, eqb-true, eq-eqb}
+use Rattle.terms.proofs.Choice.{both, pick_case}
 use Rattle.wire.specs.Number.{byte_at}
 use Rattle.wire.specs.Facts.{Stands}
 use Rattle.numbers.specs.Blocks.{Content}
 use Rattle.numbers.specs.Types.{number_types, content_of}
 use Rattle.grammar.specs.Grammar.{space, spaces}
 use Rattle.grammar.specs.Machine.{is_digit, Spans}
-use Rattle.grammar.proofs.From.{nothing, byte, after, there}
+use Rattle.grammar.proofs.From.{byte, after, there}
 use Rattle.spelling.specs.Spelling.{after_spaces}
-use Rattle.spelling.proofs.Spaces.{skipped, skipped_within, no_more as no-more-spaces, no_space, one_space}
+use Rattle.spelling.proofs.Spaces.{skipped, skipped_within, no_space, one_space}
 use Rattle.forms.proofs.Standing.{stands_both}
 use Rattle.words.specs.Words.{word_text}
 use Rattle.words.specs.Standing.{stands_at}
 use Rattle.words.proofs.Standing.{stands_exactly}
 use Rattle.values.specs.declared.Value.{Value}
 use Rattle.values.specs.declared.Value.TheVariants.{Got, Bad}
-use Rattle.values.specs.Values.{value_text, in_field}
+use Rattle.values.specs.Values.{value_text}
 use Rattle.values.specs.Reading.{value_at}
-use Rattle.kinds.specs.Kinds.{expression, LeftOut, never, reads, Field}
+use Rattle.kinds.specs.Kinds.{LeftOut, never, reads, Field}
 use Rattle.layout.specs.Layout.{equals, Fields, no_more, given, left_out, formula}
 use Rattle.layout.specs.Fields.{Found, found, lost, before, named_at, value_place, leaves, taken, fields_from}
-use Rattle.layout.proofs.Signed.{Read, NoDigit}
+use Rattle.layout.proofs.Signed.{NoDigit}
 use Rattle.layout.proofs.Valued.{Told, value_told, Standing, ReadAs, value_read}
-use Rattle.layout.proofs.Rows.{other, Name, Unlike, Row, one_word}
+use Rattle.layout.proofs.Rows.{Name, Unlike, Row, one_word}
 
 -- the contents of fields by their numbers
 unfoldable pub contents_of : List Field → List ℕ → List Content

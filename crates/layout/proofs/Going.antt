@@ -1,27 +1,22 @@
 -- A text read line by line: so many lines of blocks, and then one more, the alarms, or a bad one. Assumes nothing.
-use Prim.Native.Nat.{ℕ, zero, suc, ◌+◌, ◌-◌, ◌<◌, ◌≤◌}
-use mathlib.Core.Path.{◌≡◌, refl, sym, ap, subst, ◌∙◌}
-use mathlib.Core.Bool.{Bool, true, false}
-use mathlib.Core.Logic.{⊎_elim}
-use mathlib.Core.List.{List, [], ◌∷◌, ◌++◌, append_assoc, append-nil}
-use native.Mathlib.Nat.{le_refl}
+use Prim.Native.Nat.{ℕ, suc, ◌+◌, ◌-◌, ◌<◌, ◌≤◌}
+use mathlib.Core.Path.{◌≡◌, refl, sym, ap, ◌∙◌}
+use mathlib.Core.Bool.{true}
+use mathlib.Core.List.{List, [], ◌∷◌, ◌++◌, append_assoc}
 use native.Mathlib.Omega.{arith, by_contra}
-use lib.ListN.{length, get_or, take, drop, take-append-drop, length-append, length-drop, drop_of_length-le, get_or-append}
-use lib.Seq.{length-take-le, take_at, drop_at, drop-drop, get_or-drop, get_or_at, take-append-add}
+use lib.ListN.{length, get_or, take, drop, take-append-drop, length-append, get_or-append}
+use lib.Seq.{length-take-le, take_at, get_or-drop, get_or_at, take-append-add}
 use lib.Dec.{eqb}
 use borrow.Author.Tests.{eqb-false}
 use Rattle.terms.specs.Choice.{every}
-use Rattle.terms.proofs.Choice.{both, never, le_or_lt}
 use Rattle.terms.proofs.Every.{every_at, every_join}
 use Rattle.wire.specs.Number.{byte_at}
 use Rattle.numbers.specs.Blocks.{Bit, Block}
-use Rattle.program.specs.Program.{Program}
-use Rattle.words.specs.Words.{alarms, word_text}
-use Rattle.layout.specs.Layout.{line_feed, BlockLine, AlarmsLine, alarms_line, no_names, LineEnd, lf, cr_lf, carriage_return, Lines, one_block, the_alarms, Listing}
-use Rattle.layout.specs.Lines.{Begins, goes_on, EndsLine, LineAt, first_line, next_line, BadLine}
+use Rattle.layout.specs.Layout.{line_feed, BlockLine, LineEnd, lf, cr_lf, carriage_return, Lines, one_block}
+use Rattle.layout.specs.Lines.{EndsLine, LineAt, first_line, next_line}
 use Rattle.layout.specs.Ends.{is_inside, Split, Open}
 use Rattle.layout.proofs.Rows.{is_false}
-use Rattle.layout.proofs.Splits.{First, of_block, of_alarms, first_line as first_of, not_open}
+use Rattle.layout.proofs.Splits.{First, of_block, of_alarms, first_line as first_of}
 use Rattle.layout.proofs.One.{block_one, not_both}
 
 -- what is left of a listing after some of its blocks

@@ -3,18 +3,17 @@ use Prim.Native.Nat.{ℕ, zero, suc, ◌+◌, ◌-◌, ◌<◌, ◌≤◌}
 use mathlib.Core.Path.{◌≡◌, refl, sym, ap, subst, ◌∙◌}
 use mathlib.Core.Logic.{⊎_elim}
 use mathlib.Core.Bool.{Bool, true, false, not, ◌&&◌, ◌||◌}
-use mathlib.Core.List.{List, [], ◌∷◌, ◌++◌, append_assoc, append-nil}
-use native.Mathlib.Nat.{add-zero, le_refl}
+use mathlib.Core.List.{List, [], ◌∷◌, ◌++◌, append-nil}
+use native.Mathlib.Nat.{le_refl}
 use native.Mathlib.Omega.{arith}
 use lib.ListN.{length, get_or, length-append, length-replicate, drop_of_length-le}
-use lib.Dec.{T, T_not, ltb, leb, eqb, eqb→eq}
-use borrow.Author.Tests.{lt-ltb, le-ltb, ltb-true, ltb-false, eqb-true, eq-eqb, ne_eqb}
-use Rattle.terms.specs.Choice.{pick}
+use lib.Dec.{T, T_not, ltb, eqb, eqb→eq}
+use borrow.Author.Tests.{lt-ltb, ltb-true, eqb-true, eq-eqb}
 use Rattle.terms.proofs.Choice.{both, pick_case, never, le_or_lt}
 use Rattle.terms.proofs.Table.{every, at as entry}
 use Rattle.wire.specs.Number.{byte_at}
 use Rattle.wire.specs.Facts.{Stands}
-use Rattle.numbers.specs.Blocks.{Bit, output, bit_code, Content, Block}
+use Rattle.numbers.specs.Blocks.{output, Content, Block}
 use Rattle.numbers.specs.Types.{kind_count, bit_ref}
 use Rattle.grammar.specs.Grammar.{space, spaces}
 use Rattle.grammar.specs.Machine.{Spans}
@@ -23,7 +22,7 @@ use Rattle.writing.proofs.Back.{ref_back}
 use Rattle.spelling.specs.declared.Named.{Named}
 use Rattle.spelling.specs.declared.Named.TheVariants.{Bit as BitName, NoName}
 use Rattle.spelling.specs.Spelling.{after_spaces, name_at}
-use Rattle.spelling.proofs.Spaces.{skipped, skipped_within}
+use Rattle.spelling.proofs.Spaces.{skipped}
 use Rattle.forms.proofs.Standing.{stands_both}
 use Rattle.shown.specs.Show.{name_of}
 use Rattle.words.specs.Words.{letters_of, word_text}
@@ -31,11 +30,11 @@ use Rattle.words.specs.Standing.{stands_at}
 use Rattle.words.proofs.Standing.{stands_exactly}
 use Rattle.kinds.specs.Kinds.{Kind, kind, kinds, fields_of}
 use Rattle.layout.specs.Layout.{Fields, BlockLine, block_line}
-use Rattle.layout.specs.Heads.{kind_from, kind_at, Heading, of_kind, no_kind, letters_at, behind_number, heading_of}
+use Rattle.layout.specs.Heads.{kind_from, kind_at, Heading, of_kind, letters_at, behind_number, heading_of}
 use Rattle.layout.proofs.Rows.{same, same_self}
 use Rattle.layout.proofs.Signed.{Read}
 use Rattle.layout.proofs.Names.{name_told, name_read}
-use Rattle.layout.proofs.Fielding.{stands_within, after_spaces_lem}
+use Rattle.layout.proofs.Fielding.{after_spaces_lem}
 
 -- the letters of a kind: two, and no other kind's
 letters_apart : ℕ → ℕ → Bool

@@ -1,25 +1,25 @@
 -- What the form puts into a line holds no line end: no byte below the space. Assumes nothing.
-use Prim.Native.Nat.{ℕ, zero, suc, ◌+◌, ◌-◌, ◌/◌, ◌%◌, ◌<◌, ◌≤◌}
+use Prim.Native.Nat.{ℕ, zero, suc, ◌+◌, ◌-◌}
 use mathlib.Core.Path.{◌≡◌, refl}
 use mathlib.Core.Bool.{Bool, true, false}
 use mathlib.Core.List.{List, [], ◌∷◌, ◌++◌}
 use native.Mathlib.Omega.{arith}
-use lib.Dec.{T, ltb, leb, eqb}
+use lib.Dec.{ltb, leb, eqb}
 use lib.ListN.{length, get_or, get_or-eq_default}
 use borrow.Author.Tests.{le-leb, ltb-true, ltb-false}
-use Rattle.terms.specs.Choice.{pick, every}
+use Rattle.terms.specs.Choice.{every}
 use Rattle.terms.proofs.Choice.{pick_case, both}
 use Rattle.terms.proofs.Every.{both_hold, every_append}
 use Rattle.terms.proofs.Table.{at as entry}
 use Rattle.numbers.specs.Blocks.{Bit, off, on, input, output, Expr, Word, analog, word_of, constant, Content, Block}
 use Rattle.numbers.specs.Types.{pin, word_pin, bit_ref, word_ref}
-use Rattle.filling.specs.Filling.{digits_of, decimal}
-use Rattle.grammar.specs.Grammar.{space, spaces, digit, Decimal, no_digits, one_more, Name, name_0, name_1, name_I, name_B, Level}
+use Rattle.filling.specs.Filling.{decimal}
+use Rattle.grammar.specs.Grammar.{spaces, digit, Decimal, no_digits, one_more, Name, name_0, name_1, name_I, name_B, Level}
 use Rattle.grammar.specs.Grammar.{Operator, and_sign, nand_sign, xor_sign, or_sign, nor_sign, Reads, alone, joined, named, negated, grouped}
 use Rattle.grammar.specs.Machine.{is_digit}
 use Rattle.shown.specs.Show.{in_digits, name_of}
 use Rattle.words.specs.Words.{alarms, letters_of, words, word_text}
-use Rattle.values.specs.Values.{minus, signed, word_name, bias_of, value_text}
+use Rattle.values.specs.Values.{signed, word_name, bias_of, value_text}
 use Rattle.kinds.specs.Kinds.{Field}
 use Rattle.layout.specs.Layout.{Fields, no_more, given, left_out, formula, BlockLine, block_line, Names, no_names, one_name, AlarmsLine, alarms_line}
 use Rattle.layout.proofs.Runs.{AllDigits, digit_bounds, in_digits_all}

@@ -1,26 +1,23 @@
 -- Names at a place of a line: a letter and so many digits. What is read is the text of the reference, and its text is read as it. Assumes nothing.
-use Prim.Native.Nat.{ℕ, zero, suc, ◌+◌, ◌*◌, ◌-◌, ◌/◌, ◌%◌, ◌<◌, ◌≤◌}
+use Prim.Native.Nat.{ℕ, zero, suc, ◌+◌, ◌*◌, ◌-◌, ◌<◌, ◌≤◌}
 use mathlib.Core.Path.{◌≡◌, refl, sym, ap, ◌∙◌}
-use mathlib.Core.Bool.{Bool, true, false, ◌&&◌}
-use mathlib.Core.List.{List, [], ◌∷◌, ◌++◌}
+use mathlib.Core.Bool.{true}
+use mathlib.Core.List.{List, [], ◌∷◌}
 use native.Mathlib.Nat.{add-zero, add-mul, mul_assoc, mul_left_comm, mul-le-mul_right, mul-one}
 use native.Mathlib.Omega.{arith}
 use lib.ListN.{length}
-use lib.Dec.{ltb, leb, eqb}
-use borrow.Author.Tests.{eq-eqb}
-use Rattle.terms.specs.Choice.{pick, every}
+use Rattle.terms.specs.Choice.{every}
 use Rattle.terms.proofs.Choice.{both}
-use Rattle.wire.specs.Number.{byte_at}
 use Rattle.wire.specs.Facts.{Stands}
 use Rattle.numbers.specs.Blocks.{Bit, off, on, input, output, bit_code}
 use Rattle.numbers.specs.Types.{bit_ref}
-use Rattle.grammar.specs.Grammar.{digit, Decimal, no_digits, Name, name_0, name_1, name_I, name_B}
-use Rattle.grammar.specs.Machine.{tens, may_be, is_digit, Spans}
+use Rattle.grammar.specs.Grammar.{no_digits, Name, name_0, name_1, name_I, name_B}
+use Rattle.grammar.specs.Machine.{tens, may_be, is_digit}
 use Rattle.grammar.proofs.Complete.{may}
 use Rattle.writing.specs.Expressions.{InRange}
 use Rattle.writing.proofs.Back.{ref_back}
-use Rattle.spelling.specs.declared.Digits.TheVariants.{Got as DigitsGot, Bad as DigitsBad}
-use Rattle.spelling.specs.declared.Named.TheVariants.{Bit as BitName, NoName}
+use Rattle.spelling.specs.declared.Digits.TheVariants.{Got as DigitsGot}
+use Rattle.spelling.specs.declared.Named.TheVariants.{Bit as BitName}
 use Rattle.spelling.specs.Spelling.{digits_at, name_at}
 use Rattle.spelling.proofs.Names.{digits_good, name_good}
 use Rattle.shown.specs.Show.{in_digits, name_of}

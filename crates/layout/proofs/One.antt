@@ -1,39 +1,37 @@
 -- A line stands for one block, or for the alarms, and not for both. Assumes nothing.
-use Prim.Native.Nat.{ℕ, zero, suc, ◌+◌, ◌-◌, ◌<◌, ◌≤◌}
+use Prim.Native.Nat.{ℕ, zero, suc, ◌+◌, ◌<◌}
 use mathlib.Core.Path.{◌≡◌, refl, sym, ap, subst, ◌∙◌}
-use mathlib.Core.Bool.{Bool, true, false}
-use mathlib.Core.Logic.{⊎_elim}
+use mathlib.Core.Bool.{true}
 use mathlib.Core.List.{List, [], ◌∷◌, ◌++◌, map, append-nil}
 use native.Mathlib.Nat.{le_refl}
 use native.Mathlib.Omega.{arith}
-use lib.ListN.{length, get_or, drop, drop_of_length-le, length-replicate}
-use lib.Dec.{ltb, leb, eqb}
+use lib.ListN.{length, drop, drop_of_length-le, length-replicate}
+use lib.Dec.{ltb}
 use borrow.Author.Tests.{ltb-true}
-use Rattle.terms.proofs.Choice.{both, never, le_or_lt}
+use Rattle.terms.proofs.Choice.{both}
 use Rattle.wire.specs.Number.{byte_at}
 use Rattle.wire.specs.Facts.{Stands}
 use Rattle.numbers.specs.Blocks.{Bit, bit_code, Expr, Content, tree, Block}
 use Rattle.numbers.specs.Types.{kind_count, bit_ref}
 use Rattle.grammar.specs.Grammar.{space, spaces, Formula}
 use Rattle.grammar.specs.Machine.{Spans}
-use Rattle.grammar.specs.Readings.{Readings}
 use Rattle.grammar.proofs.Builds.{one_reading}
 use Rattle.grammar.proofs.From.{rest}
 use Rattle.writing.specs.Expressions.{InRange}
 use Rattle.writing.proofs.Back.{ref_back}
-use Rattle.spelling.specs.declared.Named.TheVariants.{Bit as BitName, NoName}
+use Rattle.spelling.specs.declared.Named.TheVariants.{NoName}
 use Rattle.spelling.specs.Spelling.{after_spaces, name_at}
 use Rattle.forms.specs.Written.{Each}
 use Rattle.forms.proofs.Standing.{stands_both}
 use Rattle.words.specs.Words.{alarms, word_text}
 use Rattle.values.specs.Values.{in_field}
-use Rattle.kinds.specs.Kinds.{expression, never as must, reads, Field, kind_of, fields_of}
-use Rattle.layout.specs.Layout.{Fields, no_more, given, left_out, formula, BlockLine, AlarmsLine, alarms_line, Names, no_names, one_name}
-use Rattle.layout.specs.Fields.{Found, found, lost, fields_from}
-use Rattle.layout.specs.Heads.{Heading, of_kind, no_kind, behind_number, heading_of}
-use Rattle.layout.proofs.Rows.{Row, row_of}
-use Rattle.layout.proofs.Fielding.{contents_of, Codes, fields_read, after_spaces_lem}
-use Rattle.layout.proofs.Heading.{Begun, begun, itself}
+use Rattle.kinds.specs.Kinds.{expression, kind_of, fields_of}
+use Rattle.layout.specs.Layout.{Fields, given, left_out, formula, BlockLine, AlarmsLine, alarms_line, Names, no_names, one_name}
+use Rattle.layout.specs.Fields.{found}
+use Rattle.layout.specs.Heads.{of_kind, no_kind, heading_of}
+use Rattle.layout.proofs.Rows.{row_of}
+use Rattle.layout.proofs.Fielding.{contents_of, fields_read, after_spaces_lem}
+use Rattle.layout.proofs.Heading.{begun, itself}
 use Rattle.layout.proofs.Alarming.{alarms_read}
 
 -- two texts that stand from one place to the end are one

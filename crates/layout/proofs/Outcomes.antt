@@ -1,11 +1,11 @@
 -- How the reading of a text ends: it is a listing, or its first bad line is told; and there is one such place. Assumes nothing.
-use Prim.Native.Nat.{ℕ, zero, suc, ◌+◌, ◌-◌, ◌<◌, ◌≤◌}
-use mathlib.Core.Path.{◌≡◌, refl, sym, ap, subst, ◌∙◌}
+use Prim.Native.Nat.{ℕ, suc, ◌-◌, ◌<◌, ◌≤◌}
+use mathlib.Core.Path.{◌≡◌, refl, sym, ap, ◌∙◌}
 use mathlib.Core.Bool.{true, false}
 use mathlib.Core.Logic.{⊎_elim}
 use mathlib.Core.List.{List, [], ◌∷◌, ◌++◌, append-nil}
 use native.Mathlib.Omega.{arith}
-use lib.ListN.{length, take, drop, take-append-drop, length-append, length-drop, length-take, drop_of_length-le}
+use lib.ListN.{length, take, drop, take-append-drop, length-append, length-drop, drop_of_length-le}
 use lib.Seq.{length-take-le}
 use lib.Dec.{leb}
 use borrow.Author.Tests.{leb-true, ne_eqb}
@@ -21,7 +21,7 @@ use Rattle.layout.specs.Ends.{is_inside, Split, Open}
 use Rattle.layout.proofs.Splits.{First, of_block, of_alarms, first_line as first_of, not_open}
 use Rattle.layout.proofs.Inline.{Inline, block_inline, alarms_inline}
 use Rattle.layout.proofs.One.{not_both, block_one, alarms_one}
-use Rattle.layout.proofs.Going.{Going, cut, then, then_all, then_more, ends_line, open_no_end, first_end}
+use Rattle.layout.proofs.Going.{Going, cut, then_all, then_more, ends_line, open_no_end}
 
 -- a line of no alarms
 no_alarms_lem : AlarmsLine (word_text alarms ++ []) []

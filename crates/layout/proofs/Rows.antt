@@ -1,16 +1,15 @@
 -- The rows of the table of kinds as lines name them: each name a word without `=`, and no two names of a row alike. By one test of the table. Assumes nothing.
-use Prim.Native.Nat.{ℕ, zero, suc, ◌+◌, ◌-◌, ◌<◌, ◌≤◌}
+use Prim.Native.Nat.{ℕ, ◌+◌, ◌<◌}
 use mathlib.Core.Path.{◌≡◌, refl, sym, ap, ◌∙◌}
 use mathlib.Core.Bool.{Bool, true, false, not, ◌&&◌, ◌||◌}
 use mathlib.Core.List.{List, [], ◌∷◌, ◌++◌}
 use native.Mathlib.Omega.{arith}
-use lib.ListN.{length, get_or}
+use lib.ListN.{get_or}
 use lib.Dec.{T, ltb, eqb}
 use borrow.Author.Tests.{ltb-true, eqb-false, eq-eqb, ne_eqb}
 use Rattle.terms.specs.Choice.{every}
 use Rattle.terms.proofs.Choice.{both, never}
 use Rattle.terms.proofs.Table.{at as entry}
-use Rattle.wire.specs.Number.{byte_at}
 use Rattle.wire.specs.Facts.{Stands}
 use Rattle.numbers.specs.Types.{number_types, kind_count}
 use Rattle.grammar.specs.Grammar.{space}

@@ -1,15 +1,15 @@
 -- Digits that stand in a text: their number, and the digits of a number. Assumes nothing.
 use Prim.Native.Nat.{ℕ, zero, suc, ◌+◌, ◌*◌, ◌-◌, ◌/◌, ◌%◌, ◌<◌, ◌≤◌}
-use mathlib.Core.Path.{◌≡◌, refl, sym, ap, ◌∙◌}
-use mathlib.Core.Bool.{Bool, true, false, ◌&&◌}
+use mathlib.Core.Path.{◌≡◌, refl, sym, ◌∙◌}
+use mathlib.Core.Bool.{Bool, true, false}
 use mathlib.Core.List.{List, [], ◌∷◌, ◌++◌, append_assoc, append-nil}
-use native.Mathlib.Nat.{add-zero, add-mul, mul_assoc, mul_left_comm, mul-le-mul_right}
+use native.Mathlib.Nat.{add-zero}
 use native.Mathlib.Omega.{arith}
 use lib.ListN.{length, length-append}
-use lib.Dec.{ltb, leb}
+use lib.Dec.{leb}
 use borrow.Author.Tests.{leb-true}
-use Rattle.terms.specs.Choice.{pick, every}
-use Rattle.terms.proofs.Choice.{both, pick_case}
+use Rattle.terms.specs.Choice.{every}
+use Rattle.terms.proofs.Choice.{both}
 use Rattle.terms.proofs.Every.{both_hold, every_append}
 use Rattle.wire.specs.Number.{byte_at}
 use Rattle.wire.specs.Facts.{Stands}
@@ -18,7 +18,6 @@ use Rattle.grammar.specs.Machine.{tens, is_digit}
 use Rattle.grammar.proofs.Complete.{is_digit_lem}
 use Rattle.grammar.proofs.From.{there}
 use Rattle.shown.specs.Show.{in_digits}
-use Rattle.values.specs.declared.Run.{Run}
 use Rattle.values.specs.Reading.{run_at}
 
 -- the number of digits that follow a number

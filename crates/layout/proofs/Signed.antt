@@ -1,31 +1,30 @@
 -- Decimals at a place of a line: what is read is the text of the number, and the text of a number is read as it, where no digit follows. Assumes nothing.
 use Prim.Native.Nat.{ℕ, zero, suc, ◌+◌, ◌*◌, ◌-◌, ◌/◌, ◌%◌, ◌^◌, ◌<◌, ◌≤◌}
-use mathlib.Core.Path.{◌≡◌, refl, sym, ap, subst, ◌∙◌}
-use mathlib.Core.Bool.{Bool, true, false, ◌&&◌}
+use mathlib.Core.Path.{◌≡◌, refl, sym, ap, ◌∙◌}
+use mathlib.Core.Bool.{true, false, ◌&&◌}
 use mathlib.Core.Logic.{⊎_elim}
 use mathlib.Core.List.{List, [], ◌∷◌, ◌++◌}
-use native.Mathlib.Nat.{add-zero, pow-suc}
+use native.Mathlib.Nat.{pow-suc}
 use native.Mathlib.Omega.{arith}
 use lib.ListN.{length, length-append}
 use lib.Dec.{ltb, leb, eqb}
-use borrow.Author.Tests.{lt-ltb, le-ltb, ltb-true, ltb-false, leb-true, le-leb, eqb-true, eqb-false, eq-eqb, ne_eqb}
-use Rattle.terms.specs.Choice.{pick, every}
+use borrow.Author.Tests.{lt-ltb, le-ltb, ltb-true, leb-true, le-leb, eqb-true, eqb-false, eq-eqb, ne_eqb}
+use Rattle.terms.specs.Choice.{every}
 use Rattle.terms.proofs.Choice.{both, pick_case, le_or_lt}
 use Rattle.terms.proofs.Every.{both_hold, every_append}
 use Rattle.wire.specs.Number.{byte_at}
 use Rattle.wire.specs.Facts.{Stands}
 use Rattle.filling.specs.Filling.{digits_of, decimal}
-use Rattle.filling.proofs.Decimals.{digits_one, digits_more, digits_short, digits_same}
+use Rattle.filling.proofs.Decimals.{digits_short, digits_same}
 use Rattle.grammar.specs.Grammar.{digit}
 use Rattle.grammar.specs.Machine.{is_digit}
 use Rattle.grammar.proofs.Complete.{is_digit_lem}
 use Rattle.grammar.proofs.From.{there}
 use Rattle.shown.specs.Show.{in_digits}
-use Rattle.values.specs.declared.Run.{Run}
 use Rattle.values.specs.declared.Value.{Value}
 use Rattle.values.specs.declared.Value.TheVariants.{Got, Bad}
 use Rattle.values.specs.Values.{minus, signed}
-use Rattle.values.specs.Reading.{run_at, plain_of, plain_at, above, below, signed_at}
+use Rattle.values.specs.Reading.{plain_of, plain_at, above, below, signed_at}
 use Rattle.layout.proofs.Runs.{number_in, AllDigits, digit_bounds, number_snoc, digits_of_lem, run_over, ran}
 
 -- the digits of a decimal: as many as it has, all digits, and its number

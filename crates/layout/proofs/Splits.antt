@@ -1,10 +1,10 @@
 -- The first line of a text, told by its end: what a listing has there is the line that the text is split at. Assumes nothing.
-use Prim.Native.Nat.{ℕ, zero, suc, ◌+◌, ◌-◌, ◌<◌, ◌≤◌}
-use mathlib.Core.Path.{◌≡◌, refl, sym, ap, ◌∙◌}
-use mathlib.Core.Bool.{Bool, true, false, not}
-use mathlib.Core.List.{List, [], ◌∷◌, ◌++◌, append_assoc, append-nil}
+use Prim.Native.Nat.{ℕ, suc}
+use mathlib.Core.Path.{◌≡◌, refl, sym, ap}
+use mathlib.Core.Bool.{true}
+use mathlib.Core.List.{List, [], ◌∷◌, ◌++◌, append-nil}
 use native.Mathlib.Omega.{arith}
-use lib.ListN.{length, drop, get_or}
+use lib.ListN.{drop, get_or}
 use lib.Dec.{leb, eqb}
 use borrow.Author.Tests.{leb-true, eqb-false}
 use Rattle.terms.specs.Choice.{every}
@@ -12,7 +12,7 @@ use Rattle.terms.proofs.Choice.{both, never}
 use Rattle.terms.proofs.Every.{every_join}
 use Rattle.numbers.specs.Blocks.{Bit, Block}
 use Rattle.layout.specs.Layout.{line_feed, carriage_return, BlockLine, AlarmsLine, LineEnd, lf, cr_lf, Lines, one_block, the_alarms}
-use Rattle.layout.specs.Ends.{is_inside, Split, Open}
+use Rattle.layout.specs.Ends.{is_inside}
 use Rattle.layout.proofs.Rows.{is_false}
 use Rattle.layout.proofs.Inline.{Inline, block_inline, alarms_inline}
 

@@ -1,20 +1,18 @@
 -- The value of a field at a place of a line: what is read is the text of the number, and its text is read as it, where no digit follows. Assumes nothing.
-use Prim.Native.Nat.{ℕ, zero, suc, ◌+◌, ◌*◌, ◌-◌, ◌<◌, ◌≤◌}
-use mathlib.Core.Path.{◌≡◌, refl, sym, ap, ◌∙◌}
+use Prim.Native.Nat.{ℕ, ◌+◌, ◌-◌, ◌<◌, ◌≤◌}
+use mathlib.Core.Path.{◌≡◌, refl, sym}
 use mathlib.Core.Bool.{Bool, true, false, not, ◌&&◌, ◌||◌}
 use mathlib.Core.Logic.{⊎_elim}
-use mathlib.Core.List.{List, [], ◌∷◌, ◌++◌}
+use mathlib.Core.List.{List, ◌∷◌}
 use native.Mathlib.Omega.{arith}
 use lib.ListN.{length, get_or}
 use lib.Dec.{T, ltb, leb, eqb, ltb→lt}
-use borrow.Author.Tests.{lt-ltb, le-ltb, ltb-true, ltb-false, leb-true, le-leb, lt-leb, eqb-true, eqb-false, eq-eqb, ne_eqb}
-use Rattle.terms.specs.Choice.{pick}
+use borrow.Author.Tests.{lt-ltb, le-ltb, ltb-true, le-leb, lt-leb, eqb-true, eqb-false, ne_eqb}
 use Rattle.terms.proofs.Choice.{both, pick_case, le_or_lt, never}
-use Rattle.terms.proofs.Every.{both_hold}
 use Rattle.terms.proofs.Table.{both_left, both_right, at as entry}
 use Rattle.wire.specs.Number.{byte_at}
 use Rattle.wire.specs.Facts.{Stands}
-use Rattle.numbers.specs.Blocks.{Bit, Word, analog, word_of, constant}
+use Rattle.numbers.specs.Blocks.{Word, analog, word_of, constant}
 use Rattle.numbers.proofs.References.{bit_code_lem}
 use Rattle.numbers.specs.Types.{pin, word_pin, plus_minus, divisor, limits, number_types, bit_ref, word_ref}
 use Rattle.grammar.specs.Machine.{tens, may_be}
@@ -25,13 +23,13 @@ use Rattle.spelling.specs.declared.Named.{Named}
 use Rattle.spelling.specs.declared.Named.TheVariants.{Bit as BitName, NoName}
 use Rattle.spelling.specs.Spelling.{digits_at, name_at}
 use Rattle.forms.proofs.Numbers.{bit_in_range}
-use Rattle.shown.specs.Show.{in_digits, name_of}
+use Rattle.shown.specs.Show.{in_digits}
 use Rattle.values.specs.declared.Value.{Value}
-use Rattle.values.specs.declared.Value.TheVariants.{Got, Bad}
-use Rattle.values.specs.Values.{letter_a, letter_w, constant_bias, signed, word_name, bias_of, value_text, in_field}
+use Rattle.values.specs.declared.Value.TheVariants.{Got}
+use Rattle.values.specs.Values.{letter_a, letter_w, constant_bias, word_name, bias_of, value_text, in_field}
 use Rattle.values.specs.Reading.{signed_at, analog_of, word_of_block, word_at, bit_of, value_at}
 use Rattle.layout.proofs.Runs.{in_digits_long}
-use Rattle.layout.proofs.Signed.{Read, NoDigit, Signed, signed_first, signed_good, signed_read}
+use Rattle.layout.proofs.Signed.{Read, NoDigit, signed_first, signed_good, signed_read}
 use Rattle.layout.proofs.Names.{digits_read, digits_told, name_told, name_read}
 
 -- a word by its number

@@ -1,5 +1,5 @@
 -- What a line begins with: the number of a block and the letters of its kind (ours; Layout says what is good).
-use Rattle.std.specs.Prelude.{ℕ, zero, suc, ◌+◌, Bool, ◌&&◌, List, length, ltb, eqb}
+use Rattle.std.specs.Prelude.{ℕ, zero, suc, ◌+◌, ◌&&◌, List, length, ltb, eqb}
 use Rattle.terms.specs.Choice.{pick}
 use Rattle.numbers.specs.Types.{kind_count}
 use Rattle.spelling.specs.declared.Named.{Named}

@@ -1,6 +1,6 @@
 -- Request L4, "Whole programs as a listing": the form of the lines, written on its own. It says which texts are listings and which program each stands
 -- for, and nothing of how a text is read. docs/LISTING.md tells the same in words.
-use Rattle.std.specs.Prelude.{ℕ, suc, ◌+◌, ◌<◌, ◌≡◌, true, List, [], ◌∷◌, ◌++◌, length}
+use Rattle.std.specs.Prelude.{ℕ, suc, ◌<◌, ◌≡◌, true, List, [], ◌∷◌, ◌++◌, length}
 use Rattle.numbers.specs.Blocks.{Bit, output, Expr, Content, tree, Block}
 use Rattle.numbers.specs.Types.{kind_count, content_of}
 use Rattle.writing.specs.Expressions.{InRange}
@@ -8,7 +8,7 @@ use Rattle.grammar.specs.Grammar.{space, spaces, Formula}
 use Rattle.shown.specs.Show.{name_of}
 use Rattle.words.specs.Words.{alarms, letters_of, word_text}
 use Rattle.values.specs.Values.{value_text, in_field}
-use Rattle.kinds.specs.Kinds.{expression, LeftOut, reads, Field, fields_of}
+use Rattle.kinds.specs.Kinds.{expression, reads, Field, fields_of}
 use Rattle.program.specs.Program.{Program}
 
 -- the bytes, in ASCII: = and the two that end a line

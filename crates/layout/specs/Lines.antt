@@ -1,5 +1,5 @@
 -- Request L4: where a text that is no listing goes wrong, and what is promised of the form.
-use Rattle.std.specs.Prelude.{ℕ, ◌+◌, ◌-◌, ◌<◌, ◌≤◌, ◌≡◌, List, ◌++◌, length, take}
+use Rattle.std.specs.Prelude.{ℕ, ◌-◌, ◌<◌, ◌≤◌, ◌≡◌, List, ◌++◌, length, take}
 use Rattle.wire.specs.Number.{byte_at}
 use Rattle.program.specs.Program.{Program}
 use Rattle.layout.specs.Layout.{line_feed, Listing}

@@ -1,5 +1,6 @@
 // The line of a block, read: its number and kind, and the numbers of its fields.
 #![tactic(auto)]
+
 ghost use Rattle.std.specs.Prelude.{◌≡◌, ◌<◌, ◌≤◌, length};
 ghost use Rattle.numbers.specs.Types.{kind_count};
 ghost use Rattle.kinds.specs.Kinds.{fields_of};

@@ -1,6 +1,6 @@
 -- A block that was read, by its kind and its row; and its line from its beginning, its fields and its end. Assumes nothing.
 use Prim.Native.Nat.{ℕ, ◌+◌, ◌<◌, ◌≤◌}
-use mathlib.Core.Path.{◌≡◌, refl, ◌∙◌}
+use mathlib.Core.Path.{◌≡◌, refl}
 use mathlib.Core.List.{List, [], ◌∷◌, ◌++◌, append_assoc}
 use native.Mathlib.Omega.{arith}
 use lib.ListN.{length, set, length-append}
@@ -20,8 +20,7 @@ use Rattle.block.specs.Reading.{fields_at, block_at}
 use Rattle.known.proofs.Places.{got_first}
 use Rattle.layout.specs.Layout.{line_feed}
 use Rattle.layout.specs.Listed.{fields_text, line_text}
-use Rattle.listing.specs.Lines.{row_at, row_text, line_in, most_of_line, Lined}
-use Rattle.listing.specs.declared.Line.{Line}
+use Rattle.listing.specs.Lines.{row_at, row_text, line_in, most_of_line}
 use Rattle.fields.proofs.Lengths.{any_word_short}
 use Rattle.listing.proofs.Rows.{row_short}
 

@@ -1,11 +1,11 @@
 -- The fields of a block that was read: those of a BL are its expression, those of any other kind are said by their numbers. Assumes nothing.
-use Prim.Native.Nat.{ℕ, suc, ◌+◌, ◌*◌, ◌<◌, ◌≤◌}
+use Prim.Native.Nat.{ℕ, suc, ◌<◌, ◌≤◌}
 use mathlib.Core.Path.{◌≡◌, refl, sym, ap, subst, ◌∙◌}
 use mathlib.Core.List.{List, [], ◌∷◌, ◌++◌, map, append-nil}
 use mathlib.Core.Logic.{⊎_elim}
 use native.Mathlib.Omega.{arith}
-use lib.ListN.{length, get_or, drop, replicate, length-map, length-replicate}
-use lib.Seq.{sets, sets-eq}
+use lib.ListN.{length, get_or, replicate, length-map, length-replicate}
+use lib.Seq.{sets-eq}
 use borrow.Author.Tests.{ne_eqb}
 use Rattle.terms.proofs.Choice.{le_or_lt}
 use Rattle.wire.specs.Reading.{Read, got, fault, and_then, IsGot, is_got}
@@ -26,7 +26,7 @@ use Rattle.block.specs.Reading.{content_at, fields_at}
 use Rattle.block.specs.Answers.{row_of}
 use Rattle.block.proofs.Weights.{fields_few as nodes-in}
 use Rattle.known.proofs.Places.{no_fault, got_first}
-use Rattle.layout.specs.Listed.{field_text, content_text, fields_text}
+use Rattle.layout.specs.Listed.{field_text, fields_text}
 use Rattle.fields.specs.Codes.{codes_text}
 use Rattle.listing.specs.Lines.{row_at, IsRow, row_text}
 use Rattle.listing.proofs.Lengths.{fields_short}

@@ -1,5 +1,6 @@
 // The line of a block in a listing, put as text from the bytes of a program that can be read.
 #![tactic(auto)]
+
 ghost use Rattle.std.specs.Prelude.{◌∷◌, ◌++◌, ◌+◌, ◌<◌, ◌^◌};
 ghost use Rattle.wire.specs.Reading.{IsGot};
 ghost use Rattle.filling.specs.Filling.{Put};

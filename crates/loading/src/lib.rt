@@ -1,5 +1,6 @@
 // Inputs and the first n places, loaded into the arrays of a scan: what references read as, in the order of their numbers.
 #![tactic(auto)]
+
 ghost use Rattle.std.specs.Prelude.{◌++◌, map, ◌≡◌, ◌≤◌, drop};
 ghost use Rattle.image.specs.Image.{is_on};
 ghost use Rattle.copies.specs.Copies.{over};

@@ -1,5 +1,6 @@
 // Names put as text: a letter with its digits, and the name of a bit reference.
 #![tactic(auto)]
+
 ghost use Rattle.std.specs.Prelude.{◌∷◌, ◌+◌, ◌<◌, ◌^◌};
 ghost use Rattle.numbers.specs.Types.{bit_ref};
 ghost use Rattle.filling.specs.Filling.{Put};

@@ -162,7 +162,7 @@ module _ (m : Marks) (s : List ℕ) where
       Comes m s p (λ _. xs) (Grown c left) (expr_at m k left s p.at)
   unfolding expr_at
   expr_comes zero d c left xs p e deep some nth many =
-      grow_comes zero d c left xs p e deep nth many some _ (λ left ys q z. absurd (omega arith)) _ (head_case zero d c left xs p e deep nth many)
+      grow_comes zero d c left xs p e deep nth many some (λ l n. fault outside n) (λ left ys q z. absurd (omega arith)) _ (head_case zero d c left xs p e deep nth many)
   expr_comes (suc k) d c left xs p e deep some nth many =
       grow_comes (suc k) d c left xs p e deep nth many some _
       (λ left ys q _ x y. expr_comes k (suc d) (suc q.count) left ys q x (omega arith) (omega arith) (below d q.count some) y)

@@ -10,7 +10,7 @@ use Rattle.terms.proofs.Choice.{never}
 use Rattle.wire.specs.Reading.{Read, got, fault}
 use Rattle.numbers.specs.Blocks.{Block}
 use Rattle.numbers.specs.Reading.{Marks, bit_marked, word_marked, marked}
-use Rattle.program.specs.Program.{Program, program_at, memory, figure}
+use Rattle.program.specs.Program.{Program, program_at}
 use Rattle.program.specs.Acceptance.{refused, every_block, marks_of, accepted}
 use Rattle.program.specs.References.{bit_there, word_there, kinds_of}
 use Rattle.program.proofs.FirstReading.{every_marked}

@@ -13,7 +13,7 @@ use Rattle.numbers.specs.Blocks.{Bit, Content, tree, Block, nodes_of, nodes_in}
 use Rattle.numbers.specs.Types.{pin, kind_number, block_count, alarm_count, allowed, excepted, content_of, setting_of, bit_ref}
 use Rattle.numbers.specs.Reading.{Marks, typed_at}
 use Rattle.nodes.specs.Reading.{most_deep, most_nodes, expr_at}
-use Rattle.kinds.specs.Kinds.{expression, nothing, kinds, types_of, memory_of, figure_of}
+use Rattle.kinds.specs.Kinds.{expression, nothing, types_of, memory_of, figure_of}
 use Rattle.block.specs.Reading.{content_at, fields_at, block_at}
 use Rattle.program.specs.Program.{Program, blocks_at, references_at, end_at, alarms_at, program_at, memory, figure}
 use Rattle.program.specs.References.{kinds_of}

@@ -1,5 +1,6 @@
 // Formulas as text: or-lists of xor-lists of and-lists of parts, whose parts may hold an or-list in parentheses again.
 #![tactic(auto)]
+
 ghost use Rattle.std.specs.Prelude.{◌≡◌, suc, max, ◌<◌};
 ghost use Rattle.grammar.specs.Grammar.{or_list, xor_list, and_list, part};
 ghost use Rattle.spelling.specs.Spelling.{level_of};

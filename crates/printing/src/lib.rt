@@ -1,5 +1,6 @@
 // The values of fields put as text.
 #![tactic(auto)]
+
 ghost use Rattle.std.specs.Prelude.{◌+◌, ◌<◌, ◌^◌};
 ghost use Rattle.numbers.specs.Types.{word_ref};
 ghost use Rattle.filling.specs.Filling.{Put};

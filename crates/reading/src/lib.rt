@@ -2,9 +2,8 @@
 #![tactic(auto)]
 
 ghost use Rattle.std.specs.Prelude.{◌≡◌, ◌++◌, ◌-◌, ◌≤◌, ◌<◌, length, take, drop};
-ghost use Rattle.reading.specs.Reading.{input_of, Inside};
+ghost use Rattle.reading.specs.Reading.{input_of, counted, Inside};
 
-use std::io;
 use std::io::Read;
 
 // What a read gave: some bytes, the end of the input, or nothing, because it failed.
@@ -15,20 +14,29 @@ pub enum Input {
     Failed,
 }
 
-// What the answer of a read into `space` says that it gave.
-#[tactic(auto, unfolding(crate::specs::Reading::input_of))]
-pub fn told_by(got: io::Result<usize>, space: &[u8]) -> Input
+// What a count says that a read into `space` gave.
+pub fn told_by(got: isize, space: &[u8]) -> Input
     requires { 0 < length space.now }
     ensures { result ≡ input_of got (length space.now) }
 {
-    let Ok(count) = got else {
+    if got < 0 {
         return Input::Failed;
-    };
-    let n = count.min(space.len());
+    }
+    let n = io::count(got, space);
     if n == 0 {
         return Input::End;
     }
     Input::Bytes(n)
+}
+
+// The count that a reader's answer stands for: how many bytes, or -1.
+fn count_of(got: std::io::Result<usize>) -> isize
+    ensures { result ≡ counted got }
+{
+    match got {
+        Ok(n) => isize::try_from(n).unwrap_or(isize::MAX),
+        Err(_) => -1,
+    }
 }
 
 // Reads on behind what is kept. What is read is not in the logic.
@@ -37,7 +45,7 @@ pub fn read_behind<R: Read>(reader: &mut R, buf: &mut [u8], kept: usize) -> Inpu
     ensures { (take kept buf.new ≡ take kept buf.old) × Inside kept buf.new result }
 {
     let got = reader.read(&mut buf[kept..]);
-    told_by(got, &buf[kept..])
+    told_by(count_of(got), &buf[kept..])
 }
 
 // Reads until the buffer is full, the input ends or a read fails, and answers how many bytes it put at the front.
@@ -47,7 +55,7 @@ pub fn read_full<R: Read>(reader: &mut R, buf: &mut [u8]) -> usize
     let mut done: usize = 0;
     while done < buf.len() {
         let got = reader.read(&mut buf[done..]);
-        let Input::Bytes(n) = told_by(got, &buf[done..]) else {
+        let Input::Bytes(n) = told_by(count_of(got), &buf[done..]) else {
             return done;
         };
         done += n;

@@ -1,5 +1,6 @@
 // The form of a recording: its head, which is the length of its program, and its scans.
 #![tactic(auto)]
+
 ghost use Rattle.std.specs.Prelude.{◌≡◌, map, ◌+◌, ◌*◌, drop};
 ghost use Rattle.terms.specs.Words.{signed};
 ghost use Rattle.wire.specs.Number.{number_at};

@@ -1,5 +1,6 @@
 // The rule of a block's kind, by the numbers of its fields: the values at its pins and words, its settings, the elapsed ticks.
 #![tactic(auto)]
+
 ghost use Rattle.std.specs.Prelude.{◌≡◌, true, ◌<◌};
 ghost use Rattle.numbers.specs.Types.{kind_count, allowed, bit_ref, word_ref, word_pin};
 ghost use Rattle.kinds.specs.Kinds.{types_of};

@@ -1,5 +1,6 @@
 // A block's turn in a scan: its row read from its bytes, the rule of its kind, and what acceptance asks of it.
 #![tactic(auto)]
+
 ghost use Rattle.std.specs.Prelude.{◌≡◌, [], ◌∷◌, ℕ, ◌<◌, ◌≤◌, ℤ};
 ghost use Rattle.numbers.specs.Blocks.{Word, word as wordField};
 ghost use Rattle.numbers.specs.Types.{kind_count, word_ref};

@@ -1,5 +1,6 @@
 // One scan of the places: the program is tried on a copy of its own places, which is stored back if the program is accepted.
 #![tactic(auto)]
+
 ghost use Rattle.std.specs.Prelude.{◌≡◌, ◌≤◌};
 ghost use Rattle.image.specs.Image.{places_in};
 ghost use Rattle.image.specs.Lent.{columns_before, columns_after};

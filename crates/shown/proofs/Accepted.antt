@@ -3,6 +3,7 @@ use Prim.Native.Nat.{ℕ, zero, suc, ◌-◌, ◌≤◌, ◌<◌}
 use mathlib.Core.Path.{◌≡◌, refl, subst}
 use mathlib.Core.List.{List}
 use native.Mathlib.Omega.{arith}
+use Rattle.terms.specs.Refusals.{outside}
 use Rattle.wire.specs.Reading.{Read, got, fault, and_then}
 use Rattle.numbers.specs.Blocks.{Expr, nodes}
 use Rattle.numbers.specs.Types.{bit_ref}
@@ -46,7 +47,7 @@ stop_fine part left (Stop n at) s = tt
 
 fine : (m : Marks) (d left : ℕ) (s : List ℕ) (at : ℕ) → Fine d (expr_at m d left s at)
 unfolding expr_at
-fine m zero left s at = stop_fine _ left (head_at m 0 left s at) (sound m 0 left s at refl)
+fine m zero left s at = stop_fine (λ l n. fault outside n) left (head_at m 0 left s at) (sound m 0 left s at refl)
 fine m (suc d) left s at = grow_fine _ d left (λ l n. fine m d l s n) (head_at m (suc d) left s at) (sound m (suc d) left s at refl)
 
 pub accepted_proper :

@@ -1,5 +1,6 @@
 // A text line by line: where the line that begins at a place ends, and where the next one begins.
 #![tactic(auto)]
+
 ghost use Rattle.std.specs.Prelude.{◌≤◌, length};
 ghost use Rattle.splitting.specs.Splitting.{Splits};
 

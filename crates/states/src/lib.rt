@@ -1,10 +1,11 @@
 // A state put into the arrays of its image, and taken out of them.
 #![tactic(auto)]
+
 mod places;
 
 ghost use Rattle.std.specs.Prelude.{◌≡◌, ◌^◌, ◌<◌};
-ghost use Rattle.image.specs.Image.{log, alarms_in, state_in, image_of};
-ghost use Rattle.image.specs.Lent.{before, after};
+ghost use Rattle.image.specs.Image.{log, columns, image, alarms_in, state_in, image_of};
+ghost use Rattle.image.specs.Lent.{after};
 
 use image::State;
 
@@ -39,7 +40,7 @@ pub fn state_in(
     outputs: &[u8; 200],
 ) -> State
     requires { alarms_in (log counts.now times.now numbers.now) < 2 ^ 32 }
-    ensures { result ≡ state_in (before counts times numbers ticks words pins outputs) }
+    ensures { result ≡ state_in (image (log counts.now times.now numbers.now) (columns ticks.now words.now pins.now outputs.now)) }
 {
     State {
         places: places::places_in(ticks, words, pins, outputs),

@@ -1,7 +1,7 @@
 // Places out of the columns of an image, and back.
 ghost use Rattle.std.specs.Prelude.{◌≡◌};
-ghost use Rattle.image.specs.Image.{places_in, columns_of};
-ghost use Rattle.image.specs.Lent.{columns_before, columns_after};
+ghost use Rattle.image.specs.Image.{columns, places_in, columns_of};
+ghost use Rattle.image.specs.Lent.{columns_after};
 
 use place::Place;
 
@@ -11,7 +11,7 @@ pub fn places_in(
     pins: &[u8; 200],
     outputs: &[u8; 200],
 ) -> [Place; 200]
-    ensures { result ≡ places_in (columns_before ticks words pins outputs) }
+    ensures { result ≡ places_in (columns ticks.now words.now pins.now outputs.now) }
 {
     let mut ps = [Place::fresh(); 200];
     let mut i: usize = 0;

@@ -1,5 +1,6 @@
 // Numbers of a program put into a lent buffer as bytes, as far as it has places.
 #![tactic(auto)]
+
 ghost use Rattle.std.specs.Prelude.{◌∷◌, ◌+◌, ◌*◌, ◌<◌, ◌^◌, length};
 ghost use Rattle.filling.specs.Filling.{Put};
 ghost use Rattle.wire.specs.Number.{groups_of};

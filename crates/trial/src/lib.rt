@@ -1,5 +1,6 @@
 // The trial of a program: read once, its blocks take their turns as they are read, and at the end it is known whether it is accepted.
 #![tactic(auto)]
+
 mod alarms;
 
 ghost use Rattle.std.specs.Prelude.{◌++◌, ◌≡◌, ◌≤◌, drop, replicate};

@@ -1,5 +1,6 @@
 // The turns of a program's blocks, on arrays, as they are read; at their end it is known whether they pass their trial.
 #![tactic(auto)]
+
 ghost use Rattle.std.specs.Prelude.{◌≡◌, ◌≤◌};
 ghost use Rattle.program.specs.Program.{blocks_at};
 ghost use Rattle.program.specs.Trial.{all_answer};

@@ -1,5 +1,6 @@
 // The values of fields as text: names of bits and words, and decimals.
 #![tactic(auto)]
+
 ghost use Rattle.std.specs.Prelude.{◌≡◌, ◌+◌, ◌<◌, ◌≤◌, ◌^◌, length};
 ghost use Rattle.numbers.specs.Types.{number_types};
 ghost use Rattle.filling.specs.Filling.{decimal};

@@ -1,191 +1,139 @@
--- `determinacy::one_answer` meets its contract: each contract says that the answer is one definition of the arguments.
-use Prim.Native.Nat.{ℕ, ◌+◌}
-use mathlib.Core.Path.{◌≡◌, refl, sym, ap, ◌∙◌}
-use mathlib.Core.List.{List}
-use native.Mathlib.Omega.{arith}
-use lib.ListN.{length, get_or, replicate, length-replicate, get_or-replicate}
-use Rattle.determinacy.specs.Determinacy.{Determined, Determinacy}
-use Rattle.grammar.proofs.Builds.{one_reading}
-use Rattle.grammar.proofs.Places.{one_place}
-use Rattle.parsing.specs.declared.Listed.{Listed}
-use Rattle.parsing.specs.Listing.{listed_tree, listed_bad, Lists, lists, lists_none}
-use Rattle.typed.proofs.Answering.{one_answer}
-use Rattle.lanwezik.specs.declared.Expression.{Expression}
-use Rattle.lanwezik.specs.Answers.{expression, Formulas, formulas}
-use Rattle.playback.specs.Playback.{Stage, Fed}
-use Rattle.reading.specs.declared.Input.{Input}
-use Rattle.reading.specs.declared.Input.TheVariants.{Bytes, End, Failed}
-use Rattle.keeping.specs.declared.Keep.{Keep}
-use Rattle.keeping.specs.Keeping.{Kept}
-use Rattle.intake.specs.Intake.{Ended, WentOn, fails, ends, reads}
-use Rattle.io.proofs.buffer.Reads as io-buffer
+-- `determinacy::one_answer` meets its contract: it does nothing, and each row holds of the contracts as they stand.
+use Prim.Native.Nat.{ℕ}
+use Rattle.std.proofs.Common.{◌≡◌, List, [], ◌∷◌, refl, sym, ap, ◌∙◌, length, arith}
+use Rattle.std.proofs.raw_atomic.Walks.{proved}
+use seplogic.Ra.Ura.{Ura}
+use base.Logic.{ent, emp, via, all_e}
+use base.Fml.{ftrue}
+use mir.Val.{vunit}
+use contract.Monad.{conj_i}
+use types.Kit.{‵, raw, ◌$◌, ◌∵◌, !, qed, done, drop, use1, feq_i, suffices, group}
+use types.Logic.{Logic}
+use types.Run.{enter, of_opd, unit_lit, returns}
+use types.ByLocal.{alloc_all, pass_all, free_all, look_at, sets}
+use denote.Steps.{nothing}
+use denote.Triple.Entry.{on_entry}
+use denote.Triple.Walked.{walk_of, ends_at}
+use Rattle.determinacy.specs.Determinacy.{Determinacy}
+use Rattle.determinacy.proofs.Loose.{loose}
+use Rattle.determinacy.proofs.Rows.{terms_signed_row, terms_hold_row, wire_number_row, place_fresh_row, place_pin_row, place_first_rises_row, place_first_falls_row, place_second_rises_row, place_either_differs_row, place_pack_row, switches_bl_row, switches_sr_row, switches_pl_row, switches_al_row, timers_dl_row, timers_os_row, timers_fl_row, counters_cn_row, counters_ud_row, analog_cp_row, analog_og_row, analog_zc_row, analog_st_row, journal_entry_zero_row, journal_rises_row, journal_journal_fresh_row, journal_journal_rise_row, journal_journal_take_row, image_state_fresh_row, image_fresh_in_row, image_journal_in_row, image_put_journal_row, inspection_good_row, inspection_is_late_row, logbook_close_row, logbook_hand_out_row, copies_copy_ticks_row, copies_copy_pins_row, loading_load_bits_row, loading_load_words_row, copies_store_words_row, copies_store_outputs_row, numbers_read_number_row, nodes_head_row, nodes_pass_row, spelling_byte_at_row, spelling_skip_spaces_row, spelling_read_name_row, spelling_read_sign_row, nodelist_put_row, nodelist_insert_row, parsing_list_nodes_row, formula_read_formula_row, kinds_memory_of_row, kinds_figure_of_row, kinds_mark_of_row, block_read_row_row, block_read_block_row, program_accept_row, expression_eval_row, rules_apply_row, running_turn_row, turns_turns_row, trial_refused_row, trial_try_program_row, scanning_run_row, calls_refuse_after_row, calls_refuse_take_row, console_scan_in_row, console_take_in_row, states_put_state_row, states_state_in_row, hall_scan_row, hall_take_row, lanwezik_accept_row, lanwezik_fresh_in_row, lanwezik_scan_in_row, lanwezik_take_in_row, lanwezik_formula_row, text_put_row, text_put_number_row, lines_write_line_row, lines_write_refused_row, lines_write_bad_scan_row, lines_write_bad_program_row, recording_read_scan_row, recording_read_head_row, playback_next_scan_row, playback_open_recording_row, telling_player_fresh_row, telling_ended_row, telling_play_row, feeding_feed_row, feeding_finish_row, reading_told_by_row, reading_move_down_row, keeping_feed_window_row, intake_go_on_row}
+use Rattle.determinacy.specs.contracts.one_answer as f
 use Rattle.determinacy.proofs.one_answer.Statement.{statement}
-use Rattle.determinacy.proofs.one_answer.Tie as tie
+use Rattle.determinacy.proofs.one_answer.Code as code
 
-same_two : {A B : Type 0} {a b : A} {c d : B} → a ≡ b → c ≡ d → ◌≡◌ {A = A × B} (a, c) (b, d)
-same_two e f = rw (e, f)
-
--- a window that was fed, and what a read gave: the answer and the three buffers
-abbrev Same : {A B C D : Type 0} → A → A → B → B → C → C → D → D → Type 0
-Same {A} {B} {C} {D} r s a b c d e f = (r ≡ s) × ◌≡◌ {A = B × (C × D)} (a, (c, e)) (b, (d, f))
-
-kept_same : {g : Stage} {f : Fed} {w b p l : List ℕ} {d d' q q' m m' : List ℕ} {r r' : Keep} → Kept g f w b d p q l m r → Kept g f w b d' p q' l m' r' →
-    Same r r' d d' q q' m m'
-kept_same h k =
-    (h.answer ∙ sym k.answer, same_two (h.buffer ∙ sym k.buffer) (same_two (h.program ∙ sym k.program) (h.lines ∙ sym k.lines)))
-
-ended_same : {text b p l : List ℕ} {d d' q q' m m' : List ℕ} {r r' : Keep} → Ended text b d p q l m r → Ended text b d' p q' l m' r' → Same r r' d d' q q' m m'
-ended_same h k =
-    (h.answer ∙ sym k.answer, same_two (h.buffer ∙ sym k.buffer) (same_two (h.program ∙ sym k.program) (h.lines ∙ sym k.lines)))
-
--- the rows of what a read gave exclude one another
-abbrev row : Input → ℕ
-row Failed = 0
-row End = 1
-row (Bytes n) = 2 + n
-
-rows : {got x y : Input} → got ≡ x → got ≡ y → row x ≡ row y
-rows e f = ap row (sym e ∙ f)
-
-went_same : {got : Input} {g : Stage} {k : ℕ} {b p l : List ℕ} {d d' q q' m m' : List ℕ} {r r' : Keep} →
-    WentOn got g k b d p q l m r → WentOn got g k b d' p q' l m' r' → Same r r' d d' q q' m m'
-went_same (fails e h) (fails f k) = ended_same h k
-went_same (fails e h) (ends f k) = absurd (omega (arith, rows e f))
-went_same (fails e h) (reads n f k) = absurd (omega (arith, rows e f))
-went_same (ends e h) (fails f k) = absurd (omega (arith, rows e f))
-went_same (ends e h) (ends f k) = ended_same h k
-went_same (ends e h) (reads n f k) = absurd (omega (arith, rows e f))
-went_same (reads n e h) (fails f k) = absurd (omega (arith, rows e f))
-went_same (reads n e h) (ends f k) = absurd (omega (arith, rows e f))
-went_same (reads n e h) (reads o f k) = let same : o ≡ n = omega (arith, rows e f) in kept_same h (rw same at k)
-
--- the rows of a text exclude one another too
-listed_same : (s : List ℕ) {q r : Listed} → Lists s q → Lists s r → q ≡ r
-listed_same s (lists t x) (lists u y) = ap listed_tree (one_reading s t u x y)
-listed_same s (lists t x) (lists_none k y) = absurd (y.no_reading t x)
-listed_same s (lists_none k x) (lists u y) = absurd (x.no_reading u y)
-listed_same s (lists_none j x) (lists_none k y) = ap listed_bad (one_place s j k x y)
-
-formulas_same : (s : List ℕ) {q r : Expression} → Formulas s q → Formulas s r → q ≡ r
-formulas_same s (formulas a x) (formulas b y) = ap expression (one_answer s a b x y)
-
--- two buffers of that length that differ
-loose : Determined io-buffer.Learnt → ⊥
-loose h =
-    let filled : ℕ → List ℕ = replicate 4096 in
-    let long : (b : ℕ) → 4096 ≡ length (filled b) = λ b. sym (length-replicate 4096 b) in
-    let e : filled 0 ≡ filled 1 = h _ _ (filled 0) (filled 1) _ _ (long 0) (long 1) in
-    let first : (b : ℕ) → get_or (filled b) 0 0 ≡ b = λ b. get_or-replicate 4096 0 b 0 (omega arith) in
-    let z : ◌≡◌ {A = ℕ} 0 1 = sym (first 0) ∙ ap (λ (l : List ℕ). get_or l 0 0) e ∙ first 1 in
-    omega arith
-
-all : Determinacy
-all =
-    record {
-      terms_signed = λ κ a x y u v h k. cc;
-      terms_hold = λ κ a x y u v h k. cc;
-      wire_number = λ κ a x y u v h k. cc;
-      place_fresh = λ κ a x y u v h k. cc;
-      place_pin = λ κ a x y u v h k. cc;
-      place_first_rises = λ κ a x y u v h k. cc;
-      place_first_falls = λ κ a x y u v h k. cc;
-      place_second_rises = λ κ a x y u v h k. cc;
-      place_either_differs = λ κ a x y u v h k. cc;
-      place_pack = λ κ a x y u v h k. cc;
-      switches_bl = λ κ a x y u v h k. cc;
-      switches_sr = λ κ a x y u v h k. cc;
-      switches_pl = λ κ a x y u v h k. cc;
-      switches_al = λ κ a x y u v h k. cc;
-      timers_dl = λ κ a x y u v h k. cc;
-      timers_os = λ κ a x y u v h k. cc;
-      timers_fl = λ κ a x y u v h k. cc;
-      counters_cn = λ κ a x y u v h k. cc;
-      counters_ud = λ κ a x y u v h k. cc;
-      analog_cp = λ κ a x y u v h k. cc;
-      analog_og = λ κ a x y u v h k. cc;
-      analog_zc = λ κ a x y u v h k. cc;
-      analog_st = λ κ a x y u v h k. cc;
-      journal_entry_zero = λ κ a x y u v h k. cc;
-      journal_rises = λ κ a x y u v h k. cc;
-      journal_journal_fresh = λ κ a x y u v h k. cc;
-      journal_journal_rise = λ κ a x y u v h k. cc;
-      journal_journal_take = λ κ a x y u v h k. cc;
-      image_state_fresh = λ κ a x y u v h k. cc;
-      image_fresh_in = λ κ a x y u v h k. (refl, h ∙ sym k);
-      image_journal_in = λ κ a x y u v h k. cc;
-      image_put_journal = λ κ a x y u v h k. (refl, h ∙ sym k);
-      inspection_good = λ κ a x y u v h k. cc;
-      inspection_is_late = λ κ a x y u v h k. cc;
-      logbook_close = λ κ a x y u v h k. (h.0 ∙ sym k.0, h.1 ∙ sym k.1);
-      logbook_hand_out = λ κ a x y u v h k. (h.0 ∙ sym k.0, h.1 ∙ sym k.1);
-      copies_copy_ticks = λ κ a x y u v h k. (refl, h ∙ sym k);
-      copies_copy_pins = λ κ a x y u v h k. (refl, h ∙ sym k);
-      loading_load_bits = λ κ a x y u v h k. (refl, h ∙ sym k);
-      loading_load_words = λ κ a x y u v h k. (refl, h ∙ sym k);
-      copies_store_words = λ κ a x y u v h k. (refl, h ∙ sym k);
-      copies_store_outputs = λ κ a x y u v h k. (refl, h ∙ sym k);
-      numbers_read_number = λ κ a x y u v h k. cc;
-      nodes_head = λ κ a x y u v h k. cc;
-      nodes_pass = λ κ a x y u v h k. cc;
-      spelling_byte_at = λ κ a x y u v h k. cc;
-      spelling_skip_spaces = λ κ a x y u v h k. cc;
-      spelling_read_name = λ κ a x y u v h k. cc;
-      spelling_read_sign = λ κ a x y u v h k. cc;
-      nodelist_put = λ κ a x y u v h k. (refl, h ∙ sym k);
-      nodelist_insert = λ κ a x y u v h k. (refl, h ∙ sym k);
-      parsing_list_nodes = λ κ a x y u v h k. listed_same _ h k;
-      formula_read_formula = λ κ a x y u v h k. one_answer _ x y h k;
-      kinds_memory_of = λ κ a x y u v h k. cc;
-      kinds_figure_of = λ κ a x y u v h k. cc;
-      kinds_mark_of = λ κ a x y u v h k. cc;
-      block_read_row = λ κ a x y u v h k. cc;
-      block_read_block = λ κ a x y u v h k. cc;
-      program_accept = λ κ a x y u v h k. cc;
-      expression_eval = λ κ a x y u v h k. cc;
-      rules_apply = λ κ a x y u v h k. cc;
-      running_turn = λ κ a x y u v h k. (h.0 ∙ sym k.0, h.1 ∙ sym k.1);
-      turns_turns = λ κ a x y u v h k. (h.0 ∙ sym k.0, h.1 ∙ sym k.1);
-      trial_refused = λ κ a x y u v h k. cc;
-      trial_try_program = λ κ a x y u v h k. (h.0 ∙ sym k.0, h.1 ∙ sym k.1);
-      scanning_run = λ κ a x y u v h k. (h.0 ∙ sym k.0, h.1 ∙ sym k.1);
-      calls_refuse_after = λ κ a x y u v h k. cc;
-      calls_refuse_take = λ κ a x y u v h k. cc;
-      console_scan_in = λ κ a x y u v h k. (h.0 ∙ sym k.0, h.1 ∙ sym k.1);
-      console_take_in = λ κ a x y u v h k. (h.0 ∙ sym k.0, h.1 ∙ sym k.1);
-      states_put_state = λ κ a x y u v h k. (refl, h ∙ sym k);
-      states_state_in = λ κ a x y u v h k. cc;
-      hall_scan = λ κ a x y u v h k. cc;
-      hall_take = λ κ a x y u v h k. cc;
-      lanwezik_accept = λ κ a x y u v h k. cc;
-      lanwezik_fresh_in = λ κ a x y u v h k. (refl, h ∙ sym k);
-      lanwezik_scan_in = λ κ a x y u v h k. (h.0 ∙ sym k.0, h.1 ∙ sym k.1);
-      lanwezik_take_in = λ κ a x y u v h k. (h.0 ∙ sym k.0, h.1 ∙ sym k.1);
-      lanwezik_formula = λ κ a x y u v h k. formulas_same _ h k;
-      text_put = λ κ a x y u v h k. (h.place ∙ sym k.place, h.bytes ∙ sym k.bytes);
-      text_put_number = λ κ a x y u v h k. (h.place ∙ sym k.place, h.bytes ∙ sym k.bytes);
-      lines_write_line = λ κ a x y u v h k. (h.place ∙ sym k.place, h.bytes ∙ sym k.bytes);
-      lines_write_refused = λ κ a x y u v h k. (h.place ∙ sym k.place, h.bytes ∙ sym k.bytes);
-      lines_write_bad_scan = λ κ a x y u v h k. (h.place ∙ sym k.place, h.bytes ∙ sym k.bytes);
-      lines_write_bad_program = λ κ a x y u v h k. (h.place ∙ sym k.place, h.bytes ∙ sym k.bytes);
-      recording_read_scan = λ κ a x y u v h k. cc;
-      recording_read_head = λ κ a x y u v h k. cc;
-      playback_next_scan = λ κ a x y u v h k. cc;
-      playback_open_recording = λ κ a x y u v h k. (h.answer ∙ sym k.answer, h.program ∙ sym k.program);
-      telling_player_fresh = λ κ a x y u v h k. cc;
-      telling_ended = λ κ a x y u v h k. cc;
-      telling_play = λ κ a x y u v h k. (h.answer ∙ sym k.answer, h.bytes ∙ sym k.bytes);
-      feeding_feed =
-          λ κ a x y u v h k. (h.told.answer ∙ sym k.told.answer, same_two (h.program ∙ sym k.program) (h.told.bytes ∙ sym k.told.bytes));
-      feeding_finish = λ κ a x y u v h k. (h.place ∙ sym k.place, h.bytes ∙ sym k.bytes);
-      reading_told_by = λ κ a x y u v h k. cc;
-      reading_move_down = λ κ a x y u v h k. (h.0 ∙ sym k.0, h.1 ∙ sym k.1);
-      keeping_feed_window = λ κ a x y u v h k. kept_same h k;
-      intake_go_on = λ κ a x y u v h k. went_same h k;
-      loose = loose;
-    }
-
-returns : tie.Need-returns
-returns c = all
+module _ {M : Type 1} {𝓤 : Ura M} (𝓛 : Logic 𝓤) where
+  all : ent 𝓤 (emp 𝓤) (Determinacy 𝓛)
+  all =
+      conj_i 𝓤 _ _ (terms_signed_row 𝓛)
+      (conj_i 𝓤 _ _ (terms_hold_row 𝓛)
+      (conj_i 𝓤 _ _ (wire_number_row 𝓛)
+      (conj_i 𝓤 _ _ (place_fresh_row 𝓛)
+      (conj_i 𝓤 _ _ (place_pin_row 𝓛)
+      (conj_i 𝓤 _ _ (place_first_rises_row 𝓛)
+      (conj_i 𝓤 _ _ (place_first_falls_row 𝓛)
+      (conj_i 𝓤 _ _ (place_second_rises_row 𝓛)
+      (conj_i 𝓤 _ _ (place_either_differs_row 𝓛)
+      (conj_i 𝓤 _ _ (place_pack_row 𝓛)
+      (conj_i 𝓤 _ _ (switches_bl_row 𝓛)
+      (conj_i 𝓤 _ _ (switches_sr_row 𝓛)
+      (conj_i 𝓤 _ _ (switches_pl_row 𝓛)
+      (conj_i 𝓤 _ _ (switches_al_row 𝓛)
+      (conj_i 𝓤 _ _ (timers_dl_row 𝓛)
+      (conj_i 𝓤 _ _ (timers_os_row 𝓛)
+      (conj_i 𝓤 _ _ (timers_fl_row 𝓛)
+      (conj_i 𝓤 _ _ (counters_cn_row 𝓛)
+      (conj_i 𝓤 _ _ (counters_ud_row 𝓛)
+      (conj_i 𝓤 _ _ (analog_cp_row 𝓛)
+      (conj_i 𝓤 _ _ (analog_og_row 𝓛)
+      (conj_i 𝓤 _ _ (analog_zc_row 𝓛)
+      (conj_i 𝓤 _ _ (analog_st_row 𝓛)
+      (conj_i 𝓤 _ _ (journal_entry_zero_row 𝓛)
+      (conj_i 𝓤 _ _ (journal_rises_row 𝓛)
+      (conj_i 𝓤 _ _ (journal_journal_fresh_row 𝓛)
+      (conj_i 𝓤 _ _ (journal_journal_rise_row 𝓛)
+      (conj_i 𝓤 _ _ (journal_journal_take_row 𝓛)
+      (conj_i 𝓤 _ _ (image_state_fresh_row 𝓛)
+      (conj_i 𝓤 _ _ (image_fresh_in_row 𝓛)
+      (conj_i 𝓤 _ _ (image_journal_in_row 𝓛)
+      (conj_i 𝓤 _ _ (image_put_journal_row 𝓛)
+      (conj_i 𝓤 _ _ (inspection_good_row 𝓛)
+      (conj_i 𝓤 _ _ (inspection_is_late_row 𝓛)
+      (conj_i 𝓤 _ _ (logbook_close_row 𝓛)
+      (conj_i 𝓤 _ _ (logbook_hand_out_row 𝓛)
+      (conj_i 𝓤 _ _ (copies_copy_ticks_row 𝓛)
+      (conj_i 𝓤 _ _ (copies_copy_pins_row 𝓛)
+      (conj_i 𝓤 _ _ (loading_load_bits_row 𝓛)
+      (conj_i 𝓤 _ _ (loading_load_words_row 𝓛)
+      (conj_i 𝓤 _ _ (copies_store_words_row 𝓛)
+      (conj_i 𝓤 _ _ (copies_store_outputs_row 𝓛)
+      (conj_i 𝓤 _ _ (numbers_read_number_row 𝓛)
+      (conj_i 𝓤 _ _ (nodes_head_row 𝓛)
+      (conj_i 𝓤 _ _ (nodes_pass_row 𝓛)
+      (conj_i 𝓤 _ _ (spelling_byte_at_row 𝓛)
+      (conj_i 𝓤 _ _ (spelling_skip_spaces_row 𝓛)
+      (conj_i 𝓤 _ _ (spelling_read_name_row 𝓛)
+      (conj_i 𝓤 _ _ (spelling_read_sign_row 𝓛)
+      (conj_i 𝓤 _ _ (nodelist_put_row 𝓛)
+      (conj_i 𝓤 _ _ (nodelist_insert_row 𝓛)
+      (conj_i 𝓤 _ _ (parsing_list_nodes_row 𝓛)
+      (conj_i 𝓤 _ _ (formula_read_formula_row 𝓛)
+      (conj_i 𝓤 _ _ (kinds_memory_of_row 𝓛)
+      (conj_i 𝓤 _ _ (kinds_figure_of_row 𝓛)
+      (conj_i 𝓤 _ _ (kinds_mark_of_row 𝓛)
+      (conj_i 𝓤 _ _ (block_read_row_row 𝓛)
+      (conj_i 𝓤 _ _ (block_read_block_row 𝓛)
+      (conj_i 𝓤 _ _ (program_accept_row 𝓛)
+      (conj_i 𝓤 _ _ (expression_eval_row 𝓛)
+      (conj_i 𝓤 _ _ (rules_apply_row 𝓛)
+      (conj_i 𝓤 _ _ (running_turn_row 𝓛)
+      (conj_i 𝓤 _ _ (turns_turns_row 𝓛)
+      (conj_i 𝓤 _ _ (trial_refused_row 𝓛)
+      (conj_i 𝓤 _ _ (trial_try_program_row 𝓛)
+      (conj_i 𝓤 _ _ (scanning_run_row 𝓛)
+      (conj_i 𝓤 _ _ (calls_refuse_after_row 𝓛)
+      (conj_i 𝓤 _ _ (calls_refuse_take_row 𝓛)
+      (conj_i 𝓤 _ _ (console_scan_in_row 𝓛)
+      (conj_i 𝓤 _ _ (console_take_in_row 𝓛)
+      (conj_i 𝓤 _ _ (states_put_state_row 𝓛)
+      (conj_i 𝓤 _ _ (states_state_in_row 𝓛)
+      (conj_i 𝓤 _ _ (hall_scan_row 𝓛)
+      (conj_i 𝓤 _ _ (hall_take_row 𝓛)
+      (conj_i 𝓤 _ _ (lanwezik_accept_row 𝓛)
+      (conj_i 𝓤 _ _ (lanwezik_fresh_in_row 𝓛)
+      (conj_i 𝓤 _ _ (lanwezik_scan_in_row 𝓛)
+      (conj_i 𝓤 _ _ (lanwezik_take_in_row 𝓛)
+      (conj_i 𝓤 _ _ (lanwezik_formula_row 𝓛)
+      (conj_i 𝓤 _ _ (text_put_row 𝓛)
+      (conj_i 𝓤 _ _ (text_put_number_row 𝓛)
+      (conj_i 𝓤 _ _ (lines_write_line_row 𝓛)
+      (conj_i 𝓤 _ _ (lines_write_refused_row 𝓛)
+      (conj_i 𝓤 _ _ (lines_write_bad_scan_row 𝓛)
+      (conj_i 𝓤 _ _ (lines_write_bad_program_row 𝓛)
+      (conj_i 𝓤 _ _ (recording_read_scan_row 𝓛)
+      (conj_i 𝓤 _ _ (recording_read_head_row 𝓛)
+      (conj_i 𝓤 _ _ (playback_next_scan_row 𝓛)
+      (conj_i 𝓤 _ _ (playback_open_recording_row 𝓛)
+      (conj_i 𝓤 _ _ (telling_player_fresh_row 𝓛)
+      (conj_i 𝓤 _ _ (telling_ended_row 𝓛)
+      (conj_i 𝓤 _ _ (telling_play_row 𝓛)
+      (conj_i 𝓤 _ _ (feeding_feed_row 𝓛)
+      (conj_i 𝓤 _ _ (feeding_finish_row 𝓛)
+      (conj_i 𝓤 _ _ (reading_told_by_row 𝓛)
+      (conj_i 𝓤 _ _ (reading_move_down_row 𝓛)
+      (conj_i 𝓤 _ _ (keeping_feed_window_row 𝓛)
+      (conj_i 𝓤 _ _ (intake_go_on_row 𝓛)
+      (loose 𝓛))))))))))))))))))))))))))))))))))))))))))))))))))))))))))))))))))))))))))))))))))))))))))))))))))
 
 pub one_answer_spec : {M : Type 1} → statement M
-one_answer_spec = tie.close (tie.spec returns)
+one_answer_spec 𝓤 𝓛 𝓜 𝓡 wired =
+    let c = f.clauses 𝓛 𝓜.mem 𝓡.returns in let W = walk_of 𝓛 f.ended tt c in
+    proved 𝓛 f.ended tt c 𝓜 𝓡 tt f.Key.name code.function (code.unfolded 𝓤 𝓛.H 𝓜 𝓡 wired)
+    (λ κs. tt) (λ κs. tt) (λ κs qs bounds a n are.
+    let y : W.Ghost = ((κs, qs, bounds, a, tt), tt) in
+    qed 𝓛 (raw (on_entry 𝓛 f.signature κs qs a tt) ∷ ‵ ftrue ∷ []) ∵ drop ! $
+    enter ! _ _ _ _ _ $ alloc_all ! (λ l. pass_all ! refl tt $
+    sets ! (of_opd ! (unit_lit !)) refl (tt, tt) $
+    returns ! (look_at ! 0 refl) $ free_all ! refl $
+    suffices ! _ (ends_at 𝓛 f.ended tt c y vunit tt tt tt) $
+    use1 𝓛 (raw (Determinacy 𝓛)) (all 𝓛) $
+    feq_i ! _ (vunit ∷ []) _ refl $ nothing ! $ nothing ! $ group ! 3 $ done !))

@@ -1,0 +1,3 @@
+mod Facts
+mod Rows
+mod Loose

@@ -1,0 +1,8 @@
+-- `lanwezik::lanwezik_formula` meets its contract: the same numbers in wider fields.
+use borrow.Author.Rules.{rules}
+use Rattle.lanwezik.specs.Answers.{formulas}
+use Rattle.lanwezik.proofs.lanwezik_formula.Goals as goal
+
+pub returns : goal.returns
+returns c =
+    formulas _ c.read_formula-a.ensures

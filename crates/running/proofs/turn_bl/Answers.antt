@@ -1,0 +1,23 @@
+-- `running::turn_bl` meets its contract: the expression's value, steps and nodes.
+use Rattle.running.proofs.Turning.{bl_done, bl_broken, bl_left}
+use Rattle.kinds.proofs.KindTable.{memory_light}
+use native.Mathlib.Omega.{arith}
+use mathlib.Core.Path.{◌∙◌, sym}
+use Rattle.running.proofs.turn_bl.Goals as goal
+
+pub overflow_sub-result : goal.overflow_sub-result
+overflow_sub-result c =
+    omega (arith, bl_left _ _ _ _ (sym c.eval-v.ensures ∙ c.in-Done.is))
+
+pub overflow_add-result : goal.overflow_add-result
+overflow_add-result c =
+    omega (arith, c.memory_of.ensures, memory_light 0 (omega arith), bl_left _ _ _ _ (sym c.eval-v.ensures ∙ c.in-Done.is))
+
+pub returns-in-Broken : goal.returns-in-Broken
+returns-in-Broken c =
+    λ g e. c.none.ensures ∙ bl_broken _ _ _ _ g e _ (sym c.eval-v.ensures ∙ c.in-Broken.is)
+
+pub returns-in-Done : goal.returns-in-Done
+returns-in-Done c =
+    λ g e. rw (c.bl.ensures, c.memory_of.ensures, c.mark_of.ensures)
+    (bl_done _ _ _ _ g e _ (sym c.eval-v.ensures ∙ c.in-Done.is))
