@@ -1,7 +1,7 @@
 -- A program that was read, block by block: its lines are that of its first block, then those of the rest. Assumes nothing.
 use Prim.Native.Nat.{ℕ, suc, ◌+◌, ◌-◌, ◌<◌, ◌≤◌}
 use mathlib.Core.Path.{◌≡◌, refl, ap, ◌∙◌}
-use mathlib.Core.List.{List, [], ◌∷◌, ◌++◌}
+use mathlib.Core.List.{List, ◌∷◌, ◌++◌}
 use native.Mathlib.Nat.{sub-zero}
 use native.Mathlib.Numerals.{add-one}
 use native.Mathlib.Omega.{arith}
@@ -11,7 +11,7 @@ use Rattle.numbers.specs.Types.{block_count}
 use Rattle.numbers.specs.Reading.{Marks, typed_at}
 use Rattle.block.specs.Reading.{block_at}
 use Rattle.program.specs.Program.{Program, blocks_at, alarms_at, after_count, program_at}
-use Rattle.known.proofs.Places.{no_fault, got_first}
+use Rattle.known.proofs.Places.{got_first}
 use Rattle.layout.specs.Listed.{lines_text, listed}
 use Rattle.listing.specs.Lines.{line_in}
 use Rattle.alarms.specs.Texts.{alarms_in}

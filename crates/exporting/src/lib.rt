@@ -1,5 +1,6 @@
 // A program exported as a listing.
 #![tactic(auto)]
+
 ghost use Rattle.std.specs.Prelude.{◌≡◌, length};
 ghost use Rattle.wire.specs.Reading.{IsGot};
 ghost use Rattle.filling.specs.Filling.{Put};

@@ -1,5 +1,6 @@
 // The line of a block taken into a buffer: of a good line the numbers that are kept of its block, of a bad one nothing.
 #![tactic(auto)]
+
 ghost use Rattle.std.specs.Prelude.{◌∷◌, ◌&&◌, ◌≡◌, ◌+◌, ◌*◌, ◌<◌, ◌≤◌, ◌^◌, min, leb, length};
 ghost use Rattle.filling.specs.Filling.{Put};
 ghost use Rattle.numbers.specs.Types.{kind_count};
