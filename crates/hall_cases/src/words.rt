@@ -1,6 +1,5 @@
 // The words of a line, as numbers, bytes and signed words.
-ghost use Rattle.std.specs.Prelude.{◌≡◌, ◌≤◌, ◌<◌, length};
-ghost use Rattle.io.specs.Counts.{IsPrefixLen};
+ghost use Rattle.std.specs.Prelude.{◌≡◌, ◌≤◌, ◌<◌, length, take};
 
 // Where the line that `from` stands in ends.
 pub fn line_end(text: &[u8], from: usize) -> usize
@@ -153,7 +152,7 @@ pub fn bytes_of(digits: &[u8], out: &mut [u8]) -> usize
 
 // How much of a buffer's front a size stands for: all, if it is over.
 pub fn within(buf: &[u8], size: usize) -> usize
-    ensures { IsPrefixLen result buf.now }
+    ensures { (result ≤ length buf.now) × (result ≡ length (take result buf.now)) }
 {
     if size > buf.len() {
         return buf.len();
