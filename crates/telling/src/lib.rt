@@ -13,7 +13,7 @@ use image::State;
 use playback::Turning;
 
 // How far a recording has come: its program is not all there, its scans are run, or the run has ended.
-#[derive(Drop)]
+#[derive(Clone, Copy)]
 pub enum Phase {
     Opening,
     Playing,
@@ -21,7 +21,7 @@ pub enum Phase {
 }
 
 // A recording on its way: of one whose scans are run the size of its program, and the state.
-#[derive(Drop)]
+#[derive(Clone, Copy)]
 pub struct Player {
     pub phase: Phase,
     pub size: usize,
@@ -42,7 +42,7 @@ impl Player {
 }
 
 // The recording after a window, how many bytes of the window are used up, and the place after its text.
-#[derive(Drop)]
+#[derive(Clone, Copy)]
 pub struct Fed {
     pub player: Player,
     pub used: usize,
