@@ -4,8 +4,7 @@ use Rattle.rules.specs.Rules.{ruled}
 use Rattle.promises.specs.EachBlock.{EachBlock}
 use Rattle.promises.proofs.OneScan.{one_block, later}
 use Rattle.promises.proofs.Unset.{rule_pins, rule_ticks, rule_word}
-use Rattle.promises.proofs.each_block.Statement.{statement}
-use Rattle.promises.proofs.each_block.Tie as tie
+use Rattle.promises.proofs.each_block.Goals as goal
 
 all : EachBlock
 unfolding ruled
@@ -18,8 +17,6 @@ all =
       word = λ f g e b p k. rule_word _ _ _ e p b.kind k;
     }
 
-returns : tie.Need-returns
-returns c = all
-
-pub each_block_spec : {M : Type 1} → statement M
-each_block_spec = tie.close (tie.spec returns)
+pub returns : goal.returns
+returns c =
+    all

@@ -20,8 +20,7 @@ use Rattle.promises.specs.AnyImage.{RefusedIn, ScanningIn, refuses_program, refu
 use Rattle.promises.specs.AnyImage.{TakingIn, refuses, hands, RefusedScanC, RefusedTakeC, AnyImage}
 use Rattle.promises.proofs.Closed.{accepted_other}
 use Rattle.promises.proofs.Images.{image_scans, image_takes, image_fresh}
-use Rattle.promises.proofs.any_image.Statement.{statement}
-use Rattle.promises.proofs.any_image.Tie as tie
+use Rattle.promises.proofs.any_image.Goals as goal
 
 module _ (bytes : List ℕ) (x : Inputs) (i : Image) where
   row : ScanningIn bytes x i (scanned_in bytes x i) (after_scan bytes x i)
@@ -101,8 +100,6 @@ all =
       take_refused = λ i. take_refused i (take_row i);
     }
 
-returns : tie.Need-returns
-returns c = all
-
-pub any_image_spec : {M : Type 1} → statement M
-any_image_spec = tie.close (tie.spec returns)
+pub returns : goal.returns
+returns c =
+    all

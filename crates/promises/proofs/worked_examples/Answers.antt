@@ -20,8 +20,7 @@ use Rattle.image.specs.State.{fresh_state, good_place, good_state, late}
 use Rattle.scanning.specs.Scan.{alarm_word, scan_to, steps_to}
 use Rattle.calls.specs.Calls.{answered, scan_of}
 use Rattle.promises.specs.Examples.{seen_in, examples, AllShown}
-use Rattle.promises.proofs.worked_examples.Statement.{statement}
-use Rattle.promises.proofs.worked_examples.Tie as tie
+use Rattle.promises.proofs.worked_examples.Goals as goal
 
 all : AllShown examples
 unfolding groups_at groups_of number_at allowed bit_ref content_of excepted said_by figure_for kind_of mark_for word_ref block_at content_at expr_at fields_at
@@ -30,8 +29,6 @@ unfolding groups_at groups_of number_at allowed bit_ref content_of excepted said
     scan_to steps_to answered late scan_of seen_in
 all = (refl, (refl, (refl, (refl, (refl, (refl, (refl, (refl, (refl, (refl, (refl, (refl, (refl, tt)))))))))))))
 
-returns : tie.Need-returns
-returns c = all
-
-pub worked_examples_spec : {M : Type 1} → statement M
-worked_examples_spec = tie.close (tie.spec returns)
+pub returns : goal.returns
+returns c =
+    all
