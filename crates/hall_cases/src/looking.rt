@@ -98,13 +98,13 @@ pub fn end_with_change(rt: &impl Print, given: &State, back: &State) -> io::Resu
 
 // Command `P`: the place of a block.
 pub fn set_place(line: &[u8], s: State) -> State {
-    let k = crate::words::index(line, 200);
+    let k = crate::line_words::index(line, 200);
     let mut ps = s.places;
     let mut p = ps[k];
-    p.pins = crate::words::at_most(crate::words::number(line, 2), 255) as u8;
-    p.out = crate::words::number(line, 3) != 0;
-    p.ticks = crate::words::at_most(crate::words::number(line, 4), 4294967295) as u32;
-    p.word = crate::words::word(line, 5);
+    p.pins = crate::line_words::at_most(crate::line_words::number(line, 2), 255) as u8;
+    p.out = crate::line_words::number(line, 3) != 0;
+    p.ticks = crate::line_words::at_most(crate::line_words::number(line, 4), 4294967295) as u32;
+    p.word = crate::line_words::word(line, 5);
     ps[k] = p;
     let mut r = s;
     r.places = ps;
@@ -113,12 +113,12 @@ pub fn set_place(line: &[u8], s: State) -> State {
 
 // Command `E`: an entry of the journal.
 pub fn set_entry(line: &[u8], s: State) -> State {
-    let k = crate::words::index(line, 32);
+    let k = crate::line_words::index(line, 32);
     let mut r = s;
     let mut es = r.journal.entries;
     let mut e = es[k];
-    e.stamp.time = crate::words::number(line, 3);
-    e.number = crate::words::at_most(crate::words::number(line, 2), 255) as u8;
+    e.stamp.time = crate::line_words::number(line, 3);
+    e.number = crate::line_words::at_most(crate::line_words::number(line, 2), 255) as u8;
     es[k] = e;
     r.journal.entries = es;
     r
@@ -128,9 +128,9 @@ pub fn set_entry(line: &[u8], s: State) -> State {
 pub fn set_count(line: &[u8], name: u8, s: State) -> State {
     let mut r = s;
     if name == b'H' {
-        r.journal.held = crate::words::number(line, 1) as usize;
+        r.journal.held = crate::line_words::number(line, 1) as usize;
     } else {
-        r.journal.missed = crate::words::number(line, 1);
+        r.journal.missed = crate::line_words::number(line, 1);
     }
     r
 }
@@ -139,11 +139,14 @@ pub fn set_count(line: &[u8], name: u8, s: State) -> State {
 pub fn set(line: &[u8], name: u8, s: State) -> State {
     let mut r = s;
     if name == b'T' {
-        r.time = crate::words::number(line, 1);
+        r.time = crate::line_words::number(line, 1);
         return r;
     }
     if name == b'A' {
-        r.alarms = crate::words::at_most(crate::words::number(line, 1), 4294967295) as u32;
+        r.alarms = crate::line_words::at_most(
+            crate::line_words::number(line, 1),
+            4294967295,
+        ) as u32;
         return r;
     }
     if name == b'P' {
@@ -160,7 +163,7 @@ pub fn set(line: &[u8], name: u8, s: State) -> State {
 
 // Command `b`: the place of a block.
 pub fn show_place(rt: &impl Print, line: &[u8], s: &State) -> io::Result<()> {
-    let k = crate::words::index(line, 200);
+    let k = crate::line_words::index(line, 200);
     let ps = s.places;
     let p = ps[k];
     rt.print("b")?;
@@ -174,7 +177,7 @@ pub fn show_place(rt: &impl Print, line: &[u8], s: &State) -> io::Result<()> {
 
 // Command `j`: an entry of the journal.
 pub fn show_entry(rt: &impl Print, line: &[u8], s: &State) -> io::Result<()> {
-    let k = crate::words::index(line, 32);
+    let k = crate::line_words::index(line, 32);
     let es = s.journal.entries;
     let e = es[k];
     let t = e.stamp;

@@ -3,9 +3,9 @@
 // Nothing but safety is promised here: what is read and answered is compared when the cases are run.
 #![tactic(auto)]
 
+mod line_words;
 mod looking;
 mod saying;
-mod words;
 
 ghost use Rattle.std.specs.Prelude.{◌≡◌, length};
 
@@ -41,8 +41,8 @@ fn start(rt: &impl Print, line: &[u8]) -> io::Result<Desk> {
 fn set_program(line: &[u8], program: &mut [u8], desk: Desk) -> Desk
     ensures { length program.new ≡ length program.old }
 {
-    let at = words::start_of(line, 1);
-    let size = words::bytes_of(&line[at..], program);
+    let at = line_words::start_of(line, 1);
+    let size = line_words::bytes_of(&line[at..], program);
     let mut d = desk;
     d.size = size;
     d
@@ -82,9 +82,9 @@ fn told_scan(rt: &impl Print, given: &State, a: Scanned) -> io::Result<State> {
 
 // Command `s`: a scan.
 fn scan(rt: &impl Print, line: &[u8], program: &[u8], given: State) -> io::Result<State> {
-    let elapsed = words::at_most(words::number(line, 1), 65535) as u16;
-    let bits = words::at_most(words::number(line, 2), 4294967295) as u32;
-    let words = words::words_of(line);
+    let elapsed = line_words::at_most(line_words::number(line, 1), 65535) as u16;
+    let bits = line_words::at_most(line_words::number(line, 2), 4294967295) as u32;
+    let words = line_words::words_of(line);
     let before = looking::copied(&given);
     let a = hall::scan(program, given, elapsed, bits, words);
     told_scan(rt, &before, a)
@@ -142,7 +142,7 @@ fn command(rt: &impl Print, line: &[u8], program: &mut [u8], desk: Desk) -> io::
     if name == b'p' {
         return Ok(set_program(line, program, desk));
     }
-    let size = words::within(program, desk.size);
+    let size = line_words::within(program, desk.size);
     if name == b'a' {
         accept(rt, &program[..size])?;
         return Ok(desk);
@@ -162,7 +162,7 @@ fn cases(rt: &impl Print, all: &[u8]) -> io::Result<()> {
     let mut desk = new_case();
     let mut at: usize = 0;
     while at < all.len() {
-        let end = words::line_end(all, at);
+        let end = line_words::line_end(all, at);
         desk = command(rt, &all[at..end], &mut program, desk)?;
         at = end;
         if at < all.len() {

@@ -1,6 +1,6 @@
 -- The place moves on by one byte, and no sum is made here.
 use Rattle.std.proofs.Common.{◌-◌, ◌≤◌, length}
-use Rattle.hall_cases.proofs.words.decimal.Given as goal
+use Rattle.hall_cases.proofs.line_words.decimal.Given as goal
 
 abbrev pub invariant-loop-at : goal.invariant-loop-at
 invariant-loop-at l = l.at ≤ length l.text

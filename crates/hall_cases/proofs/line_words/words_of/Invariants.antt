@@ -1,6 +1,6 @@
 -- The array keeps its eight words, and the index counts up to 8.
 use Rattle.std.proofs.Common.{◌-◌, ◌≡◌, length}
-use Rattle.hall_cases.proofs.words.words_of.Given as goal
+use Rattle.hall_cases.proofs.line_words.words_of.Given as goal
 
 abbrev pub invariant-loop-i : goal.invariant-loop-i
 invariant-loop-i l = length l.words ≡ 8
