@@ -7,8 +7,7 @@ use Rattle.windows.specs.Windows.{in_windows}
 use Rattle.windows.proofs.Feeds.{windows}
 use Rattle.telling.specs.Lines.{line_for, lines_for}
 use Rattle.feeding.specs.Listing.{listing, texts_for, Listed}
-use Rattle.feeding.proofs.listed.Statement.{statement}
-use Rattle.feeding.proofs.listed.Tie as tie
+use Rattle.feeding.proofs.listed.Goals as goal
 
 lines_join : (a b : List Came) → lines_for (a ++ b) ≡ lines_for a ++ lines_for b
 lines_join [] b = refl
@@ -25,8 +24,6 @@ listed : Listed
 unfolding listing
 listed ws = texts ws _ [] ∙ ap lines_for (windows.same ws)
 
-returns : tie.Need-returns
-returns c = listed
-
-pub listed_spec : {M : Type 1} → statement M
-listed_spec = tie.close (tie.spec returns)
+pub returns : goal.returns
+returns c =
+    listed
