@@ -1,26 +1,6 @@
 // The state: compared, shown and set, a part at a time.
-ghost use Rattle.std.specs.Prelude.{◌≡◌};
-
 use image::State;
-use journal::Journal;
 use std::io;
-
-// A state that is the same in every field.
-pub fn copied(s: &State) -> State
-    ensures { result ≡ s.now }
-{
-    let j = &s.journal;
-    State {
-        places: s.places,
-        time: s.time,
-        alarms: s.alarms,
-        journal: Journal {
-            entries: j.entries,
-            held: j.held,
-            missed: j.missed,
-        },
-    }
-}
 
 // Whether all 200 places are the same in every field.
 pub fn same_places(a: &State, b: &State) -> bool {

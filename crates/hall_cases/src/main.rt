@@ -85,14 +85,12 @@ fn scan(rt: &impl Print, line: &[u8], program: &[u8], given: State) -> io::Resul
     let elapsed = line_words::at_most(line_words::number(line, 1), 65535) as u16;
     let bits = line_words::at_most(line_words::number(line, 2), 4294967295) as u32;
     let words = line_words::words_of(line);
-    let before = looking::copied(&given);
     let a = hall::scan(program, given, elapsed, bits, words);
-    told_scan(rt, &before, a)
+    told_scan(rt, &given, a)
 }
 
 // Command `t`: a take.
 fn take(rt: &impl Print, given: State) -> io::Result<State> {
-    let before = looking::copied(&given);
     let a = hall::take(given);
     let s = a.state;
     let j = &s.journal;
@@ -105,7 +103,7 @@ fn take(rt: &impl Print, given: State) -> io::Result<State> {
     saying::say(rt, t.time)?;
     saying::say(rt, j.held as u64)?;
     if a.refusal != 0 || !a.found {
-        looking::end_with_change(rt, &before, &s)?;
+        looking::end_with_change(rt, &given, &s)?;
     } else {
         saying::end(rt)?;
     }
