@@ -1,5 +1,6 @@
 // The alarms' line of a listing: its names are counted, and put into a lent buffer as the numbers of a program.
 #![tactic(auto)]
+
 ghost use Rattle.std.specs.Prelude.{◌≡◌, ◌+◌, ◌*◌, ◌<◌, ◌^◌};
 ghost use Rattle.filling.specs.Filling.{Put};
 ghost use Rattle.writing.specs.Expressions.{bytes_of};

@@ -9,7 +9,7 @@ use image::State;
 use journal::Entry;
 
 // The answer of a scan: the state, number of refusal and place (0 and 0 if there is none), alarm word, steps, rises.
-#[derive(Drop)]
+#[derive(Clone, Copy)]
 pub struct Scanned {
     pub state: State,
     pub refusal: u8,

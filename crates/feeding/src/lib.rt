@@ -1,5 +1,6 @@
 // scanlist's text for a recording that comes in windows: a window is fed, and its lines are put into a buffer.
 #![tactic(auto)]
+
 ghost use Rattle.std.specs.Prelude.{[], ◌≤◌, length};
 ghost use Rattle.text.specs.Text.{Put};
 ghost use Rattle.lines.specs.Lines.{line_bytes};

@@ -2,15 +2,20 @@
 // tests/formulas.py says how the lines are written, and writes the files and what is to be printed.
 // Nothing but safety is promised here: what is read and answered is compared when the cases are run.
 #![tactic(auto)]
+
 ghost use Rattle.std.specs.Prelude.{◌≡◌, length};
 
-use libc::STDOUT_FILENO;
+use std::fs::File;
+use std::{env, io};
+
+// The longest file.
+const MOST_FILE: usize = 65536;
 
 // The longest text of a line.
 const MOST_TEXT: usize = 1000000;
 
 // What the next byte of a line is: of the text; the first digit of `\hh`, or its second; a digit of the number in `@N hh`.
-#[derive(Drop)]
+#[derive(Clone, Copy)]
 enum Mode {
     Plain,
     High,
@@ -19,7 +24,7 @@ enum Mode {
 }
 
 // A line on its way: how many bytes of its text there are, how often the next is to stand, and what comes next.
-#[derive(Drop)]
+#[derive(Clone, Copy)]
 struct Line {
     size: usize,
     times: usize,
@@ -120,41 +125,41 @@ fn add(text: &mut [u8], line: Line, b: u8) -> Line
 }
 
 // Prints a space and a number.
-fn say(n: u64) {
-    io::write_all(STDOUT_FILENO, b" ");
-    io::print_decimal(STDOUT_FILENO, n);
+fn say(rt: &impl Print, n: u64) -> io::Result<()> {
+    print!(rt; " {n}")
 }
 
 // The same of a node.
-fn say_node(n: u8) {
-    say(n as u64);
+fn say_node(rt: &impl Print, n: u8) -> io::Result<()> {
+    say(rt, n as u64)
 }
 
 // What a text is answered: refusal, place and count, then the nodes, and whatever stands behind them that is not 0.
-fn answer(text: &[u8]) {
+fn answer(rt: &impl Print, text: &[u8]) -> io::Result<()> {
     let a = formula::read_formula(text);
-    io::print_decimal(STDOUT_FILENO, a.refusal as u64);
-    say(a.place as u64);
-    say(a.count as u64);
+    let refusal = a.refusal;
+    print!(rt; "{refusal}")?;
+    say(rt, a.place as u64)?;
+    say(rt, a.count as u64)?;
     let count = a.count as usize;
     let nodes = a.nodes;
     let mut i: usize = 0;
     while i < 64 {
         let node = nodes[i];
         if i < count || node != 0 {
-            say_node(node);
+            say_node(rt, node)?;
         }
         i += 1;
     }
-    io::write_all(STDOUT_FILENO, b"\n");
+    rt.println("")
 }
 
 // The text of a line, whose size is within its buffer.
-fn answer_front(text: &[u8], size: usize) {
+fn answer_front(rt: &impl Print, text: &[u8], size: usize) -> io::Result<()> {
     if size > text.len() {
-        return;
+        return Ok(());
     }
-    answer(&text[..size]);
+    answer(rt, &text[..size])
 }
 
 // Room for the longest text.
@@ -165,52 +170,46 @@ fn text_buffer() -> [u8; MOST_TEXT]
 }
 
 // One byte of a file: at the end of a line its text is answered.
-fn turn(text: &mut [u8], line: Line, b: u8) -> Line
+fn turn(rt: &impl Print, text: &mut [u8], line: Line, b: u8) -> io::Result<Line>
     ensures { length text.new ≡ length text.old }
 {
     if b == b'\n' {
-        answer_front(text, line.size);
-        return new_line();
+        answer_front(rt, text, line.size)?;
+        return Ok(new_line());
     }
-    add(text, line, b)
+    Ok(add(text, line, b))
 }
 
 // Each line of a file; its text is put into a buffer.
-fn cases(all: &[u8], text: &mut [u8]) {
+fn cases(rt: &impl Print, all: &[u8], text: &mut [u8]) -> io::Result<()> {
     let mut line = new_line();
     let mut at: usize = 0;
     while at < all.len() {
         let b = all[at];
-        line = turn(text, line, b);
+        line = turn(rt, text, line, b)?;
         at += 1;
     }
+    Ok(())
 }
 
-// The file that argument i names.
-fn file(i: usize) {
-    let mut path = io::buffer();
-    let n = os::arg(i, &mut path);
-    io::write_all(STDOUT_FILENO, b"== ");
-    io::write_all(STDOUT_FILENO, &path[..n]);
-    io::write_all(STDOUT_FILENO, b"\n");
-    let fd = os::open_read(&path[..n]);
-    if fd < 0 {
-        os::fail(&path[..n]);
-        return;
+// The file of that name; one that cannot be opened is told of and passed over.
+fn file(rt: &HostRuntime, name: &str) -> io::Result<()> {
+    println!(rt; "== {name}")?;
+    match File::open(rt, name) {
+        Ok(mut opened) => {
+            let mut all = [0u8; MOST_FILE];
+            let size = reading::read_full(&mut opened, &mut all);
+            let mut text = text_buffer();
+            cases(rt, &all[..size], &mut text)
+        }
+        Err(error) => eprintln!(rt; "{name}: {error}"),
     }
-    let mut all = [0u8; 65536];
-    let m = io::read_full(fd, &mut all);
-    libc::close(fd);
-    let mut text = text_buffer();
-    cases(&all[..m], &mut text);
 }
 
 // Each argument in turn.
-fn main() {
-    let n = os::arg_count();
-    let mut i: usize = 1;
-    while i < n {
-        file(i);
-        i += 1;
+fn main(rt: HostRuntime) -> io::Result<()> {
+    for name in env::args(&rt)?.skip(1) {
+        file(&rt, name.as_str())?;
     }
+    Ok(())
 }

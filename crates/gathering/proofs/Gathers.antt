@@ -1,21 +1,19 @@
 -- Turns of the reading: what holds of the lines read so far and of what is stored of them, after one more. Assumes nothing.
-use Prim.Native.Nat.{ℕ, zero, suc, ◌+◌, ◌-◌, ◌<◌, ◌≤◌}
+use Prim.Native.Nat.{ℕ, ◌+◌, ◌-◌, ◌<◌, ◌≤◌}
 use mathlib.Core.Path.{◌≡◌, refl, sym, ap, subst, ◌∙◌}
 use mathlib.Core.Bool.{Bool, true, false}
 use mathlib.Core.List.{List, [], ◌∷◌, ◌++◌, append-nil}
 use native.Mathlib.Numerals.{add-one}
 use native.Mathlib.Omega.{arith}
 use lib.ListN.{length, take, drop}
-use lib.Seq.{sets, length-sets}
+use lib.Seq.{length-sets}
 use Rattle.wire.specs.Number.{groups_of}
 use Rattle.numbers.specs.Blocks.{Bit, Block}
-use Rattle.program.specs.Program.{Program}
 use Rattle.filling.specs.Filling.{Put}
 use Rattle.writing.specs.Expressions.{bytes_of}
 use Rattle.forms.specs.Written.{block_numbers}
 use Rattle.fronts.specs.Fronts.{small, most_kept, front_of, alarms_front, front}
 use Rattle.layout.specs.Layout.{BlockLine, block_line, AlarmsLine, LineEnd, lf, cr_lf, Listing}
-use Rattle.layout.specs.Lines.{BadLine}
 use Rattle.layout.specs.Ends.{Split, Open}
 use Rattle.layout.proofs.Going.{Going, start, one_more}
 use Rattle.layout.proofs.Outcomes.{bad_open, bad_line, bad_more, listing}

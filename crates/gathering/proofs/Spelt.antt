@@ -1,14 +1,14 @@
 -- What a listing stands for is spelt: each number below the limit of its type, each expression proper. Assumes nothing.
-use Prim.Native.Nat.{ℕ, zero, suc, ◌+◌, ◌<◌, ◌≤◌}
-use mathlib.Core.Path.{◌≡◌, refl, sym, ◌∙◌}
+use Prim.Native.Nat.{ℕ, suc, ◌+◌, ◌<◌, ◌≤◌}
+use mathlib.Core.Path.{◌≡◌, refl}
 use mathlib.Core.Bool.{Bool, true, false, not, ◌&&◌}
-use mathlib.Core.List.{List, [], ◌∷◌, ◌++◌}
+use mathlib.Core.List.{List, [], ◌∷◌}
 use native.Mathlib.Omega.{arith}
 use lib.ListN.{length, get_or, get_or-eq_default}
 use lib.Dec.{T, ltb, leb, eqb}
-use borrow.Author.Tests.{ltb-true, ltb-false}
+use borrow.Author.Tests.{ltb-true}
 use Rattle.terms.specs.Choice.{every}
-use Rattle.terms.proofs.Choice.{both, never as not_both, le_or_lt}
+use Rattle.terms.proofs.Choice.{both, le_or_lt}
 use Rattle.terms.proofs.Table.{at as entry}
 use mathlib.Core.Logic.{⊎_elim}
 use Rattle.numbers.specs.Blocks.{Bit, Content, Block}
@@ -16,11 +16,11 @@ use Rattle.numbers.specs.Types.{number_types, kind_count, word_pin, limits}
 use Rattle.writing.specs.Expressions.{InRange}
 use Rattle.shown.proofs.Read.{read_proper}
 use Rattle.values.specs.Values.{in_field}
-use Rattle.kinds.specs.Kinds.{expression, LeftOut, never, reads, Field, Kind, kind, kinds, kind_of, fields_of, types_in, types_of}
+use Rattle.kinds.specs.Kinds.{LeftOut, never, reads, Field, Kind, kind, kinds, kind_of, fields_of, types_in}
 use Rattle.columns.proofs.Rows.{types_are}
 use Rattle.program.specs.Program.{Program}
 use Rattle.forms.specs.Written.{Each}
-use Rattle.fronts.specs.Fronts.{SpeltContent, spelt_number, spelt_tree, SpeltFields, SpeltBlock, Spelt}
+use Rattle.fronts.specs.Fronts.{spelt_number, spelt_tree, SpeltFields, SpeltBlock, Spelt}
 use Rattle.layout.specs.Layout.{Fields, no_more, given, left_out, formula, BlockLine, block_line, AlarmsLine, alarms_line, Lines, one_block, the_alarms, Listing}
 use Rattle.layout.proofs.One.{alarms_range}
 

@@ -1,16 +1,13 @@
 -- What is stored of the blocks read so far: the front of their numbers, as bytes, behind two places that are left for the count. Assumes nothing.
-use Prim.Native.Nat.{ℕ, zero, suc, ◌+◌, ◌*◌, ◌-◌, ◌/◌, ◌<◌, ◌≤◌}
+use Prim.Native.Nat.{ℕ, suc, ◌+◌, ◌*◌, ◌-◌, ◌/◌, ◌<◌, ◌≤◌}
 use mathlib.Core.Path.{◌≡◌, refl, sym, ap, ◌∙◌}
 use mathlib.Core.Bool.{Bool, true, false}
-use mathlib.Core.List.{List, [], ◌∷◌, ◌++◌, append_assoc, append-nil}
-use native.Mathlib.Nat.{le_refl}
+use mathlib.Core.List.{List, [], ◌∷◌, ◌++◌, append_assoc}
 use native.Mathlib.Omega.{arith}
-use lib.ListN.{length, take, drop, length-append, length-take, drop_of_length-le}
+use lib.ListN.{length, take, drop, length-append, drop_of_length-le}
 use lib.Seq.{sets, sets-eq, length-sets, length-take-le, take_at, drop_at, drop-append-le, take-append-add}
-use lib.Dec.{leb}
 use borrow.Author.Tests.{lt-ltb, le-ltb}
-use Rattle.terms.specs.Choice.{pick, every}
-use Rattle.terms.proofs.Choice.{pick_case}
+use Rattle.terms.specs.Choice.{pick}
 use Rattle.numbers.specs.Blocks.{Bit, Block}
 use Rattle.wire.specs.Number.{groups_of}
 use Rattle.filling.specs.Filling.{Put}

@@ -1,5 +1,6 @@
 // A listing read line by line, and the front of its program stored.
 #![tactic(auto)]
+
 ghost use Rattle.std.specs.Prelude.{◌≡◌, ◌+◌, ◌<◌, ◌≤◌, ◌^◌, length};
 ghost use Rattle.taking.specs.Taking.{TakesLine};
 ghost use Rattle.gathering.specs.Gathering.{room_size, Gathers, Counts};

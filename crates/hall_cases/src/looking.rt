@@ -1,9 +1,9 @@
 // The state: compared, shown and set, a part at a time.
 use image::State;
-use libc::STDOUT_FILENO;
+use std::io;
 
 // Whether all 200 places are the same in every field.
-pub fn same_places(a: State, b: State) -> bool {
+pub fn same_places(a: &State, b: &State) -> bool {
     let ps = a.places;
     let qs = b.places;
     let mut i: usize = 0;
@@ -28,9 +28,9 @@ pub fn same_places(a: State, b: State) -> bool {
 }
 
 // Whether the journals hold the same, entry by entry, with the same counts.
-pub fn same_journal(a: State, b: State) -> bool {
-    let x = a.journal;
-    let y = b.journal;
+pub fn same_journal(a: &State, b: &State) -> bool {
+    let x = &a.journal;
+    let y = &b.journal;
     let es = x.entries;
     let fs = y.entries;
     let mut i: usize = 0;
@@ -54,7 +54,7 @@ pub fn same_journal(a: State, b: State) -> bool {
 }
 
 // Whether two states are the same in every field.
-pub fn same(a: State, b: State) -> bool {
+pub fn same(a: &State, b: &State) -> bool {
     if a.time != b.time {
         return false;
     }
@@ -68,23 +68,23 @@ pub fn same(a: State, b: State) -> bool {
 }
 
 // Ends a line with whether the state handed back is the given one.
-pub fn end_with_change(given: State, back: State) {
+pub fn end_with_change(rt: &impl Print, given: &State, back: &State) -> io::Result<()> {
     if same(given, back) {
-        io::write_all(STDOUT_FILENO, b" same\n");
+        rt.print(" same\n")
     } else {
-        io::write_all(STDOUT_FILENO, b" changed\n");
+        rt.print(" changed\n")
     }
 }
 
 // Command `P`: the place of a block.
 pub fn set_place(line: &[u8], s: State) -> State {
-    let k = crate::words::index(line, 200);
+    let k = crate::line_words::index(line, 200);
     let mut ps = s.places;
     let mut p = ps[k];
-    p.pins = crate::words::at_most(crate::words::number(line, 2), 255) as u8;
-    p.out = crate::words::number(line, 3) != 0;
-    p.ticks = crate::words::at_most(crate::words::number(line, 4), 4294967295) as u32;
-    p.word = crate::words::word(line, 5);
+    p.pins = crate::line_words::at_most(crate::line_words::number(line, 2), 255) as u8;
+    p.out = crate::line_words::number(line, 3) != 0;
+    p.ticks = crate::line_words::at_most(crate::line_words::number(line, 4), 4294967295) as u32;
+    p.word = crate::line_words::word(line, 5);
     ps[k] = p;
     let mut r = s;
     r.places = ps;
@@ -93,31 +93,25 @@ pub fn set_place(line: &[u8], s: State) -> State {
 
 // Command `E`: an entry of the journal.
 pub fn set_entry(line: &[u8], s: State) -> State {
-    let k = crate::words::index(line, 32);
-    let mut j = s.journal;
-    let mut es = j.entries;
-    let mut e = es[k];
-    let mut t = e.stamp;
-    t.time = crate::words::number(line, 3);
-    e.number = crate::words::at_most(crate::words::number(line, 2), 255) as u8;
-    e.stamp = t;
-    es[k] = e;
-    j.entries = es;
+    let k = crate::line_words::index(line, 32);
     let mut r = s;
-    r.journal = j;
+    let mut es = r.journal.entries;
+    let mut e = es[k];
+    e.stamp.time = crate::line_words::number(line, 3);
+    e.number = crate::line_words::at_most(crate::line_words::number(line, 2), 255) as u8;
+    es[k] = e;
+    r.journal.entries = es;
     r
 }
 
 // Commands `H` and `M`: how many entries are held, and how many were missed.
 pub fn set_count(line: &[u8], name: u8, s: State) -> State {
-    let mut j = s.journal;
-    if name == b'H' {
-        j.held = crate::words::number(line, 1) as usize;
-    } else {
-        j.missed = crate::words::number(line, 1);
-    }
     let mut r = s;
-    r.journal = j;
+    if name == b'H' {
+        r.journal.held = crate::line_words::number(line, 1) as usize;
+    } else {
+        r.journal.missed = crate::line_words::number(line, 1);
+    }
     r
 }
 
@@ -125,49 +119,51 @@ pub fn set_count(line: &[u8], name: u8, s: State) -> State {
 pub fn set(line: &[u8], name: u8, s: State) -> State {
     let mut r = s;
     if name == b'T' {
-        r.time = crate::words::number(line, 1);
+        r.time = crate::line_words::number(line, 1);
         return r;
     }
     if name == b'A' {
-        r.alarms = crate::words::at_most(crate::words::number(line, 1), 4294967295) as u32;
+        r.alarms = crate::line_words::at_most(
+            crate::line_words::number(line, 1),
+            4294967295,
+        ) as u32;
         return r;
     }
     if name == b'P' {
-        return set_place(line, s);
+        return set_place(line, r);
     }
     if name == b'E' {
-        return set_entry(line, s);
+        return set_entry(line, r);
     }
     if name == b'H' || name == b'M' {
-        return set_count(line, name, s);
+        return set_count(line, name, r);
     }
-    s
+    r
 }
 
 // Command `b`: the place of a block.
-pub fn show_place(line: &[u8], s: State) {
-    let k = crate::words::index(line, 200);
+pub fn show_place(rt: &impl Print, line: &[u8], s: &State) -> io::Result<()> {
+    let k = crate::line_words::index(line, 200);
     let ps = s.places;
     let p = ps[k];
-    io::write_all(STDOUT_FILENO, b"b");
-    crate::saying::say(k as u64);
-    crate::saying::say(p.pins as u64);
-    crate::saying::say_bool(p.out);
-    crate::saying::say(p.ticks as u64);
-    crate::saying::say_signed(p.word);
-    crate::saying::end();
+    rt.print("b")?;
+    crate::saying::say(rt, k as u64)?;
+    crate::saying::say(rt, p.pins as u64)?;
+    crate::saying::say_bool(rt, p.out)?;
+    crate::saying::say(rt, p.ticks as u64)?;
+    crate::saying::say_signed(rt, p.word)?;
+    crate::saying::end(rt)
 }
 
 // Command `j`: an entry of the journal.
-pub fn show_entry(line: &[u8], s: State) {
-    let k = crate::words::index(line, 32);
-    let j = s.journal;
-    let es = j.entries;
+pub fn show_entry(rt: &impl Print, line: &[u8], s: &State) -> io::Result<()> {
+    let k = crate::line_words::index(line, 32);
+    let es = s.journal.entries;
     let e = es[k];
     let t = e.stamp;
-    io::write_all(STDOUT_FILENO, b"j");
-    crate::saying::say(k as u64);
-    crate::saying::say(e.number as u64);
-    crate::saying::say(t.time);
-    crate::saying::end();
+    rt.print("j")?;
+    crate::saying::say(rt, k as u64)?;
+    crate::saying::say(rt, e.number as u64)?;
+    crate::saying::say(rt, t.time)?;
+    crate::saying::end(rt)
 }

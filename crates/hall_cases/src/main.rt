@@ -2,15 +2,20 @@
 // tests/controller.py says what the commands are, and writes the files and what is to be printed.
 // Nothing but safety is promised here: what is read and answered is compared when the cases are run.
 #![tactic(auto)]
+
+mod line_words;
 mod looking;
 mod saying;
-mod words;
 
 ghost use Rattle.std.specs.Prelude.{◌≡◌, length};
 
 use calls::Scanned;
 use image::State;
-use libc::STDOUT_FILENO;
+use std::fs::File;
+use std::{env, io};
+
+// The longest file.
+const MOST_FILE: usize = 262144;
 
 // What stands between two commands: the state, and how many bytes the program has.
 #[derive(Drop)]
@@ -26,171 +31,162 @@ fn new_case() -> Desk {
 }
 
 // Command `=`: the line itself is printed, and all is new.
-fn start(line: &[u8]) -> Desk {
-    io::write_all(STDOUT_FILENO, line);
-    saying::end();
-    new_case()
+fn start(rt: &impl Print, line: &[u8]) -> io::Result<Desk> {
+    rt.write_all(line)?;
+    saying::end(rt)?;
+    Ok(new_case())
 }
 
 // Command `p`: the program's bytes are put into the buffer.
 fn set_program(line: &[u8], program: &mut [u8], desk: Desk) -> Desk
     ensures { length program.new ≡ length program.old }
 {
-    let at = words::start_of(line, 1);
-    let size = words::bytes_of(&line[at..], program);
+    let at = line_words::start_of(line, 1);
+    let size = line_words::bytes_of(&line[at..], program);
     let mut d = desk;
     d.size = size;
     d
 }
 
 // Command `a`: what acceptance answers.
-fn accept(program: &[u8]) {
+fn accept(rt: &impl Print, program: &[u8]) -> io::Result<()> {
     let a = program::accept(program);
-    io::write_all(STDOUT_FILENO, b"a");
-    saying::say(a.refusal as u64);
-    saying::say(a.place as u64);
-    saying::say(a.memory as u64);
-    saying::say(a.steps as u64);
-    saying::end();
+    rt.print("a")?;
+    saying::say(rt, a.refusal as u64)?;
+    saying::say(rt, a.place as u64)?;
+    saying::say(rt, a.memory as u64)?;
+    saying::say(rt, a.steps as u64)?;
+    saying::end(rt)
 }
 
 // Prints what a scan answers, and gives the state handed back.
-fn told_scan(given: State, a: Scanned) -> State {
+fn told_scan(rt: &impl Print, given: &State, a: Scanned) -> io::Result<State> {
     let s = a.state;
-    let j = s.journal;
-    io::write_all(STDOUT_FILENO, b"s");
-    saying::say(a.refusal as u64);
-    saying::say(a.place as u64);
-    saying::say(a.alarms as u64);
-    saying::say(a.steps as u64);
-    saying::say(a.rises as u64);
-    saying::say(s.time);
-    saying::say(j.held as u64);
-    saying::say(j.missed);
+    let j = &s.journal;
+    rt.print("s")?;
+    saying::say(rt, a.refusal as u64)?;
+    saying::say(rt, a.place as u64)?;
+    saying::say(rt, a.alarms as u64)?;
+    saying::say(rt, a.steps as u64)?;
+    saying::say(rt, a.rises as u64)?;
+    saying::say(rt, s.time)?;
+    saying::say(rt, j.held as u64)?;
+    saying::say(rt, j.missed)?;
     if a.refusal != 0 {
-        looking::end_with_change(given, s);
+        looking::end_with_change(rt, given, &s)?;
     } else {
-        saying::end();
+        saying::end(rt)?;
     }
-    s
+    Ok(s)
 }
 
 // Command `s`: a scan.
-fn scan(line: &[u8], program: &[u8], given: State) -> State {
-    let elapsed = words::at_most(words::number(line, 1), 65535) as u16;
-    let bits = words::at_most(words::number(line, 2), 4294967295) as u32;
-    let words = words::words_of(line);
+fn scan(rt: &impl Print, line: &[u8], program: &[u8], given: State) -> io::Result<State> {
+    let elapsed = line_words::at_most(line_words::number(line, 1), 65535) as u16;
+    let bits = line_words::at_most(line_words::number(line, 2), 4294967295) as u32;
+    let words = line_words::words_of(line);
     let a = hall::scan(program, given, elapsed, bits, words);
-    told_scan(given, a)
+    told_scan(rt, &given, a)
 }
 
 // Command `t`: a take.
-fn take(given: State) -> State {
+fn take(rt: &impl Print, given: State) -> io::Result<State> {
     let a = hall::take(given);
     let s = a.state;
-    let j = s.journal;
+    let j = &s.journal;
     let e = a.entry;
     let t = e.stamp;
-    io::write_all(STDOUT_FILENO, b"t");
-    saying::say(a.refusal as u64);
-    saying::say_bool(a.found);
-    saying::say(e.number as u64);
-    saying::say(t.time);
-    saying::say(j.held as u64);
+    rt.print("t")?;
+    saying::say(rt, a.refusal as u64)?;
+    saying::say_bool(rt, a.found)?;
+    saying::say(rt, e.number as u64)?;
+    saying::say(rt, t.time)?;
+    saying::say(rt, j.held as u64)?;
     if a.refusal != 0 || !a.found {
-        looking::end_with_change(given, s);
+        looking::end_with_change(rt, &given, &s)?;
     } else {
-        saying::end();
+        saying::end(rt)?;
     }
-    s
+    Ok(s)
 }
 
 // A command that only needs the line and the state: a take, a look at the state, or a part of it set.
-fn on_state(line: &[u8], name: u8, s: State) -> State {
+fn on_state(rt: &impl Print, line: &[u8], name: u8, s: State) -> io::Result<State> {
     if name == b't' {
-        return take(s);
+        return take(rt, s);
     }
     if name == b'b' {
-        looking::show_place(line, s);
-        return s;
+        looking::show_place(rt, line, &s)?;
+        return Ok(s);
     }
     if name == b'j' {
-        looking::show_entry(line, s);
-        return s;
+        looking::show_entry(rt, line, &s)?;
+        return Ok(s);
     }
-    looking::set(line, name, s)
+    Ok(looking::set(line, name, s))
 }
 
 // One line of a file, without its end.
-fn command(line: &[u8], program: &mut [u8], desk: Desk) -> Desk
+fn command(rt: &impl Print, line: &[u8], program: &mut [u8], desk: Desk) -> io::Result<Desk>
     ensures { length program.new ≡ length program.old }
 {
     if line.len() == 0 {
-        return desk;
+        return Ok(desk);
     }
     let name = line[0];
     if name == b'=' {
-        return start(line);
+        return start(rt, line);
     }
     if name == b'p' {
-        return set_program(line, program, desk);
+        return Ok(set_program(line, program, desk));
     }
-    let size = words::within(program, desk.size);
+    let size = line_words::within(program, desk.size);
     if name == b'a' {
-        accept(&program[..size]);
-        return desk;
+        accept(rt, &program[..size])?;
+        return Ok(desk);
     }
-    let given = desk.state;
     let mut d = desk;
     if name == b's' {
-        let s = scan(line, &program[..size], given);
-        d.state = s;
-        return d;
+        d.state = scan(rt, line, &program[..size], d.state)?;
+        return Ok(d);
     }
-    let s = on_state(line, name, given);
-    d.state = s;
-    d
+    d.state = on_state(rt, line, name, d.state)?;
+    Ok(d)
 }
 
 // Each line of a file.
-fn cases(all: &[u8]) {
+fn cases(rt: &impl Print, all: &[u8]) -> io::Result<()> {
     let mut program = [0u8; 32768];
     let mut desk = new_case();
     let mut at: usize = 0;
     while at < all.len() {
-        let end = words::line_end(all, at);
-        desk = command(&all[at..end], &mut program, desk);
+        let end = line_words::line_end(all, at);
+        desk = command(rt, &all[at..end], &mut program, desk)?;
         at = end;
         if at < all.len() {
             at += 1;
         }
     }
+    Ok(())
 }
 
-// The file that argument i names.
-fn file(i: usize) {
-    let mut path = io::buffer();
-    let n = os::arg(i, &mut path);
-    io::write_all(STDOUT_FILENO, b"== ");
-    io::write_all(STDOUT_FILENO, &path[..n]);
-    saying::end();
-    let fd = os::open_read(&path[..n]);
-    if fd < 0 {
-        os::fail(&path[..n]);
-        return;
+// The file of that name; one that cannot be opened is told of and passed over.
+fn file(rt: &HostRuntime, name: &str) -> io::Result<()> {
+    println!(rt; "== {name}")?;
+    match File::open(rt, name) {
+        Ok(mut opened) => {
+            let mut text = [0u8; MOST_FILE];
+            let size = reading::read_full(&mut opened, &mut text);
+            cases(rt, &text[..size])
+        }
+        Err(error) => eprintln!(rt; "{name}: {error}"),
     }
-    let mut text = [0u8; 262144];
-    let m = io::read_full(fd, &mut text);
-    libc::close(fd);
-    cases(&text[..m]);
 }
 
 // Each argument in turn.
-fn main() {
-    let n = os::arg_count();
-    let mut i: usize = 1;
-    while i < n {
-        file(i);
-        i += 1;
+fn main(rt: HostRuntime) -> io::Result<()> {
+    for name in env::args(&rt)?.skip(1) {
+        file(&rt, name.as_str())?;
     }
+    Ok(())
 }

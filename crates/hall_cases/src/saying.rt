@@ -1,5 +1,5 @@
 // What is printed: numbers after spaces, and the ends of lines.
-use libc::STDOUT_FILENO;
+use std::io;
 
 // The word's distance from 0.
 pub fn distance(w: i16) -> u64 {
@@ -10,31 +10,26 @@ pub fn distance(w: i16) -> u64 {
 }
 
 // Prints a space and a number.
-pub fn say(n: u64) {
-    io::write_all(STDOUT_FILENO, b" ");
-    io::print_decimal(STDOUT_FILENO, n);
+pub fn say(rt: &impl Print, n: u64) -> io::Result<()> {
+    print!(rt; " {n}")
 }
 
 // Prints a space and a signed number.
-pub fn say_signed(w: i16) {
+pub fn say_signed(rt: &impl Print, w: i16) -> io::Result<()> {
+    let distance = distance(w);
     if w < 0 {
-        io::write_all(STDOUT_FILENO, b" -");
+        print!(rt; " -{distance}")
     } else {
-        io::write_all(STDOUT_FILENO, b" ");
+        print!(rt; " {distance}")
     }
-    io::print_decimal(STDOUT_FILENO, distance(w));
 }
 
 // Prints a space, and 1 for true and 0 for false.
-pub fn say_bool(b: bool) {
-    if b {
-        io::write_all(STDOUT_FILENO, b" 1");
-    } else {
-        io::write_all(STDOUT_FILENO, b" 0");
-    }
+pub fn say_bool(rt: &impl Print, b: bool) -> io::Result<()> {
+    if b { rt.print(" 1") } else { rt.print(" 0") }
 }
 
 // Ends a line that says nothing of the state.
-pub fn end() {
-    io::write_all(STDOUT_FILENO, b"\n");
+pub fn end(rt: &impl Print) -> io::Result<()> {
+    rt.print("\n")
 }

@@ -1,6 +1,6 @@
 -- What is answered of the bytes of a program; and that the front of a program answers for the program. Assumes nothing.
 use Prim.Native.Nat.{ℕ, ◌-◌, ◌<◌, ◌≤◌}
-use mathlib.Core.Path.{◌≡◌, refl, sym, ap, subst, ◌∙◌}
+use mathlib.Core.Path.{◌≡◌, refl, ap, subst, ◌∙◌}
 use mathlib.Core.Bool.{Bool, true, false}
 use mathlib.Core.List.{List}
 use native.Mathlib.Omega.{arith}
@@ -8,14 +8,13 @@ use lib.ListN.{length, take, drop}
 use lib.Seq.{sets}
 use lib.Dec.{eqb}
 use borrow.Author.Tests.{eq-eqb, ne_eqb, lt-ltb, le-ltb, eqb-true}
-use Rattle.terms.specs.Choice.{pick}
-use Rattle.terms.specs.Refusals.{short_buffer, bad_text}
+use Rattle.terms.specs.Refusals.{short_buffer}
 use Rattle.writing.specs.Expressions.{bytes_of}
 use Rattle.program.specs.Program.{Program}
 use Rattle.program.specs.declared.Acceptance.{Acceptance}
 use Rattle.program.specs.Acceptance.{accepted}
 use Rattle.forms.specs.Written.{written}
-use Rattle.fronts.specs.Fronts.{front, Spelt}
+use Rattle.fronts.specs.Fronts.{front}
 use Rattle.fronts.proofs.Fronts.{front_decides, front_accepted}
 use Rattle.exchange.specs.declared.Exchange.{Exchange}
 use Rattle.exchange.specs.Exchange.{refused, done, handed, filled}
@@ -25,7 +24,7 @@ use Rattle.gathering.specs.declared.Gathered.{Gathered}
 use Rattle.gathering.specs.declared.Gathered.TheVariants.{Program as ProgramAt, Bad}
 use Rattle.gathering.specs.Gathering.{Gathers, gathers, no_listing}
 use Rattle.gathering.proofs.Spelt.{listing_spelt}
-use Rattle.importing.specs.Imports.{by_acceptance, into_buffer, imported_as, imported_into, Hands, Imports, bad_listing, a_listing}
+use Rattle.importing.specs.Imports.{by_acceptance, into_buffer, imported_as, imported_into, Hands, Imports, a_listing}
 
 module _ {x l : List ℕ} {a : Acceptance} (e : a ≡ accepted x) where
   pub hands_refusal : {r : Exchange} → (a.refusal ≡ 0 → ⊥) → r ≡ refused a.refusal a.place → Hands x l l r

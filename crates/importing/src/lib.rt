@@ -1,5 +1,6 @@
 // A listing imported to the bytes of the program that it stands for.
 #![tactic(auto)]
+
 ghost use Rattle.importing.specs.Imports.{Hands, Imports};
 
 use exchange::Exchange;

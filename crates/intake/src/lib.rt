@@ -1,5 +1,6 @@
 // What a read gave: its bytes are fed behind those that are kept, the end is told, and a failure ends the run.
 #![tactic(auto)]
+
 ghost use Rattle.std.specs.Prelude.{◌≡◌, ◌≤◌, length};
 ghost use Rattle.recording.specs.Recording.{program_bytes};
 ghost use Rattle.telling.specs.Answers.{Roomy};

@@ -1,5 +1,6 @@
 // A window in a buffer: it is fed, and what is left of it is moved down, so that the next can be read behind it.
 #![tactic(auto)]
+
 ghost use Rattle.std.specs.Prelude.{◌≤◌, length, take};
 ghost use Rattle.recording.specs.Recording.{program_bytes};
 ghost use Rattle.playback.specs.Playback.{fed};
@@ -10,7 +11,7 @@ ghost use Rattle.keeping.specs.Keeping.{Kept};
 use telling::Player;
 
 // A recording, how many bytes of its last window are kept, and the place after its text.
-#[derive(Drop)]
+#[derive(Clone, Copy)]
 pub struct Keep {
     pub player: Player,
     pub kept: usize,

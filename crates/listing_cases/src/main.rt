@@ -2,10 +2,12 @@
 // tests/listings.py says how the cases are written, and writes the files and what is to be printed.
 // Nothing but safety is promised here: what is read and answered is compared when the cases are run.
 #![tactic(auto)]
-ghost use Rattle.std.specs.Prelude.{◌≡◌, ◌≤◌, ◌<◌, length};
+
+ghost use Rattle.std.specs.Prelude.{◌≡◌, ◌≤◌, ◌<◌, length, IfOk};
 
 use exchange::Exchange;
-use libc::STDOUT_FILENO;
+use std::fs::File;
+use std::{env, io};
 
 // The longest file.
 const MOST_FILE: usize = 262144;
@@ -17,7 +19,7 @@ const MOST_ROOM: usize = 40000;
 const PRIME: usize = 65521;
 
 // What the cases of a file ask for.
-#[derive(Drop)]
+#[derive(Clone, Copy)]
 enum Way {
     Import,
     Export,
@@ -69,9 +71,8 @@ fn sum(bytes: &[u8]) -> usize {
 }
 
 // Prints a number and what stands behind it.
-fn say(n: u64, behind: &[u8]) {
-    io::print_decimal(STDOUT_FILENO, n);
-    io::write_all(STDOUT_FILENO, behind);
+fn say(rt: &impl Print, n: u64, behind: &str) -> io::Result<()> {
+    print!(rt; "{n}{behind}")
 }
 
 // Imports or exports some bytes into a buffer.
@@ -83,12 +84,12 @@ fn exchange_bytes(way: Way, bytes: &[u8], out: &mut [u8]) -> Exchange {
 }
 
 // The line of a case: refusal, place, length, and the sum of the whole buffer afterwards.
-fn answer(way: Way, bytes: &[u8], out: &mut [u8]) {
+fn answer(rt: &impl Print, way: Way, bytes: &[u8], out: &mut [u8]) -> io::Result<()> {
     let a = exchange_bytes(way, bytes, out);
-    say(a.refusal as u64, b" ");
-    say(a.place as u64, b" ");
-    say(a.length as u64, b" ");
-    say(sum(out) as u64, b"\n");
+    say(rt, a.refusal as u64, " ")?;
+    say(rt, a.place as u64, " ")?;
+    say(rt, a.length as u64, " ")?;
+    say(rt, sum(out) as u64, "\n")
 }
 
 // A buffer before it is lent: every byte is A5.
@@ -99,61 +100,55 @@ fn untouched() -> [u8; MOST_ROOM]
 }
 
 // Answers the case at the front of what is left of a file, and tells how many bytes it takes; all, if it is cut or asks for too much.
-fn case(way: Way, left: &[u8]) -> usize
+fn case(rt: &impl Print, way: Way, left: &[u8]) -> io::Result<usize>
     requires { 0 < length left.now }
-    ensures { (0 < result) × (result ≤ length left.now) }
+    ensures { IfOk result (λ n. (0 < n) × (n ≤ length left.now)) }
 {
     if left.len() < 8 {
-        return left.len();
+        return Ok(left.len());
     }
     let room = number(left, 0);
     let size = number(left, 4);
     if left.len() - 8 < size {
-        return left.len();
+        return Ok(left.len());
     }
     if MOST_ROOM < room {
-        return left.len();
+        return Ok(left.len());
     }
     let end = size + 8;
     let mut out = untouched();
-    answer(way, &left[8..end], &mut out[..room]);
-    end
+    answer(rt, way, &left[8..end], &mut out[..room])?;
+    Ok(end)
 }
 
 // Each case of a file.
-fn cases(way: Way, all: &[u8]) {
+fn cases(rt: &impl Print, way: Way, all: &[u8]) -> io::Result<()> {
     let mut at: usize = 0;
     while at < all.len() {
-        let n = case(way, &all[at..]);
+        let n = case(rt, way, &all[at..])?;
         at += n;
     }
+    Ok(())
 }
 
-// The file that argument i names.
-fn file(i: usize) {
-    let mut path = io::buffer();
-    let n = os::arg(i, &mut path);
-    io::write_all(STDOUT_FILENO, b"== ");
-    io::write_all(STDOUT_FILENO, &path[..n]);
-    io::write_all(STDOUT_FILENO, b"\n");
-    let fd = os::open_read(&path[..n]);
-    if fd < 0 {
-        os::fail(&path[..n]);
-        return;
+// The file of that name; one that cannot be opened is told of and passed over.
+fn file(rt: &HostRuntime, name: &str) -> io::Result<()> {
+    println!(rt; "== {name}")?;
+    match File::open(rt, name) {
+        Ok(mut opened) => {
+            let way = way_of(name.as_bytes());
+            let mut all = [0u8; MOST_FILE];
+            let size = reading::read_full(&mut opened, &mut all);
+            cases(rt, way, &all[..size])
+        }
+        Err(error) => eprintln!(rt; "{name}: {error}"),
     }
-    let way = way_of(&path[..n]);
-    let mut all = [0u8; MOST_FILE];
-    let m = io::read_full(fd, &mut all);
-    libc::close(fd);
-    cases(way, &all[..m]);
 }
 
 // Each argument in turn.
-fn main() {
-    let n = os::arg_count();
-    let mut i: usize = 1;
-    while i < n {
-        file(i);
-        i += 1;
+fn main(rt: HostRuntime) -> io::Result<()> {
+    for name in env::args(&rt)?.skip(1) {
+        file(&rt, name.as_str())?;
     }
+    Ok(())
 }

@@ -1,5 +1,6 @@
 // What a recording comes to: its program, and its scans one after the other. Nothing is printed here.
 #![tactic(auto)]
+
 ghost use Rattle.std.specs.Prelude.{◌≡◌, ◌≤◌, length};
 ghost use Rattle.calls.specs.Calls.{refused_scan};
 ghost use Rattle.recording.specs.Recording.{program_bytes, scan_at};

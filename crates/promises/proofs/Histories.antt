@@ -2,7 +2,7 @@
 use mathlib.Core.Path.{◌≡◌, refl, sym, ap, subst, ◌∙◌}
 use mathlib.Core.Bool.{Bool, true, false}
 use mathlib.Core.List.{List, [], ◌∷◌, ◌++◌, append_assoc, append-nil}
-use Prim.Native.Nat.{ℕ, ◌+◌, ◌<◌}
+use Prim.Native.Nat.{ℕ, ◌<◌}
 use native.Mathlib.Omega.{arith}
 use borrow.Author.Tests.{ne_eqb}
 use lib.Dec.{eqb}
@@ -12,7 +12,7 @@ use Rattle.program.specs.Program.{Program, figure}
 use Rattle.program.specs.Acceptance.{every_block}
 use Rattle.program.proofs.FirstReading.{Good, good, accepted_good}
 use Rattle.journal.specs.declared.Entry.{Entry}
-use Rattle.journal.specs.Journal.{fresh_journal, taken}
+use Rattle.journal.specs.Journal.{fresh_journal}
 use Rattle.image.specs.declared.State.{State}
 use Rattle.calls.specs.declared.Scanned.{Scanned}
 use Rattle.calls.specs.declared.Handed.{Handed}

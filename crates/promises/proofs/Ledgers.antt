@@ -74,7 +74,7 @@ pub enters_all : {j : Journal} {l : Ledger} {out : List Entry} → Keeps j l out
     → Keeps (stored_all t j ns) (entered_all l (map (entry_of t) ns)) out
 unfolding stored_all entered_all
 enters_all k t [] = k
-enters_all k t (a ∷ ns) = enters_all (enters k t a) t ns
+enters_all {j = j} {l = l} k t (a ∷ ns) = enters_all {j = stored t j a} {l = entered l (entry_of t a)} (enters k t a) t ns
 
 -- as many rises are in the ledger as were entered
 abbrev pub in_all : Ledger → ℕ

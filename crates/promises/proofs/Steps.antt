@@ -7,7 +7,6 @@ use native.Mathlib.Omega.{arith}
 use lib.ListN.{length, length-append, length-map}
 use Rattle.program.specs.Program.{Program, figure}
 use Rattle.program.specs.Acceptance.{accepted}
-use Rattle.program.proofs.FirstReading.{good}
 use Rattle.terms.specs.Bits.{packed}
 use Rattle.journal.specs.declared.Entry.{Entry}
 use Rattle.journal.specs.Journal.{entry_of, rises_in, risen}

@@ -1,6 +1,7 @@
 // The promises of Lanwezik, each the contract of a function that does nothing: what it ensures is a theorem over the definitions that
 // the calls' contracts cite. `specs/` says what each means.
 #![tactic(auto)]
+
 ghost use Rattle.promises.specs.Demand1.{Demand1};
 ghost use Rattle.promises.specs.AnyImage.{AnyImage};
 ghost use Rattle.promises.specs.Demand2.{EveryRun};

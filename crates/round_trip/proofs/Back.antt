@@ -1,11 +1,7 @@
 -- Import after export gives the bytes back. Assumes nothing.
 use Prim.Native.Nat.{ℕ}
 use mathlib.Core.Path.{◌≡◌, refl, sym, ap, ◌∙◌}
-use mathlib.Core.Bool.{true}
 use mathlib.Core.List.{List}
-use native.Mathlib.Omega.{arith}
-use lib.ListN.{length}
-use lib.Dec.{eqb}
 use borrow.Author.Tests.{eq-eqb}
 use Rattle.wire.specs.Facts.{Bytes}
 use Rattle.wire.specs.Reading.{got}
@@ -15,7 +11,6 @@ use Rattle.forms.specs.Written.{written, ProgramHolds}
 use Rattle.forms.proofs.Form.{program_form}
 use Rattle.exchange.specs.declared.Exchange.{Exchange}
 use Rattle.exchange.specs.Exchange.{handed, filled}
-use Rattle.layout.specs.Layout.{Listing}
 use Rattle.layout.specs.Listed.{listed}
 use Rattle.layout.proofs.Outcomes.{one_program}
 use Rattle.importing.specs.Imports.{by_acceptance, into_buffer, imported_as, imported_into, Imports, bad_listing, a_listing}

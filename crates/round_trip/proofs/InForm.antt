@@ -6,15 +6,13 @@ use mathlib.Core.List.{List, [], ◌∷◌, ◌++◌, append_assoc, append-nil}
 use native.Mathlib.Omega.{arith}
 use lib.ListN.{length, get_or}
 use lib.Dec.{ltb, leb, eqb}
-use borrow.Author.Tests.{eqb-true, lt-ltb, ltb-true}
-use Rattle.terms.specs.Choice.{pick}
+use borrow.Author.Tests.{eqb-true}
 use Rattle.terms.proofs.Choice.{both, pick_case, never as not_both}
 use Rattle.terms.proofs.Every.{both_hold}
-use Rattle.numbers.specs.Blocks.{Bit, output, Content, bit, word, number, tree, Block, code_of}
-use Rattle.numbers.specs.Types.{pin, word_pin, number_types, kind_count, limits, excepted, allowed, bit_ref, word_ref, content_of, setting_of}
+use Rattle.numbers.specs.Blocks.{Bit, output, Content, Block}
+use Rattle.numbers.specs.Types.{pin, word_pin, kind_count, limits, excepted, allowed, content_of, setting_of}
 use Rattle.numbers.proofs.References.{bit_code_lem, word_code_lem}
-use Rattle.nodes.specs.Reading.{most_deep}
-use Rattle.grammar.specs.Grammar.{space, Formula}
+use Rattle.grammar.specs.Grammar.{space}
 use Rattle.writing.specs.Expressions.{InRange}
 use Rattle.shown.specs.Show.{name_of, show}
 use Rattle.shown.proofs.Back.{reads_back}
@@ -24,7 +22,7 @@ use Rattle.kinds.specs.Kinds.{expression, LeftOut, never, reads, Field, bare_fie
 use Rattle.columns.proofs.Rows.{types_are}
 use Rattle.program.specs.Program.{Program}
 use Rattle.forms.specs.Written.{Holds, of_number, of_tree, FieldsHold, BlockHolds, Each, ProgramHolds}
-use Rattle.layout.specs.Layout.{equals, line_feed, Fields, no_more, given, left_out, formula, BlockLine, block_line, Names, no_names, one_name, AlarmsLine, alarms_line, lf, Lines, one_block, the_alarms, Listing}
+use Rattle.layout.specs.Layout.{equals, line_feed, Fields, no_more, given, left_out, formula, BlockLine, block_line, Names, no_names, one_name, alarms_line, lf, Lines, one_block, the_alarms, Listing}
 use Rattle.layout.specs.Listed.{leaves_out, field_text, content_text, fields_text, line_text, names_text, alarms_text, lines_text, listed}
 use Rattle.layout.proofs.Rows.{Row, row_of}
 

@@ -11,10 +11,10 @@ use lib.Dec.{T, ltb, eqb}
 use borrow.Author.Tests.{eqb-true, eqb-false, ltb-false, le-ltb}
 use Rattle.terms.specs.Choice.{pick, every}
 use Rattle.terms.specs.Refusals.{short_buffer}
-use Rattle.terms.proofs.Choice.{both, pick_case, never as not_both}
+use Rattle.terms.proofs.Choice.{both, never as not_both}
 use Rattle.terms.proofs.Table.{at as entry}
 use Rattle.wire.specs.Facts.{Bytes}
-use Rattle.wire.specs.Reading.{Read, got, fault}
+use Rattle.wire.specs.Reading.{Read, got}
 use Rattle.numbers.specs.Types.{pin, kind_count}
 use Rattle.kinds.specs.Kinds.{LeftOut, never, reads, Field, Kind, kind, kinds, kind_of, fields_of}
 use Rattle.program.specs.Program.{Program, program_at}

@@ -1,7 +1,6 @@
 // The listing program: the recording on standard input.
 #![tactic(auto)]
-use libc::STDIN_FILENO;
 
-fn main() {
-    stream::run(STDIN_FILENO);
+fn main(rt: HostRuntime) {
+    stream::run(&rt, &mut rt.stdin());
 }

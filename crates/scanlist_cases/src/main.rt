@@ -1,28 +1,25 @@
 // Every file that an argument names, under its name: each is a recording, and what scanlist prints for it follows.
 #![tactic(auto)]
-use libc::STDOUT_FILENO;
 
-// The file that argument i names.
-fn file(i: usize) {
-    let mut path = io::buffer();
-    let n = os::arg(i, &mut path);
-    io::write_all(STDOUT_FILENO, b"== ");
-    io::write_all(STDOUT_FILENO, &path[..n]);
-    io::write_all(STDOUT_FILENO, b"\n");
-    let fd = os::open_read(&path[..n]);
-    if fd < 0 {
-        os::fail(&path[..n]);
-        return;
+use std::fs::File;
+use std::{env, io};
+
+// The file of that name; one that cannot be opened is told of and passed over.
+fn file(rt: &HostRuntime, name: &str) -> io::Result<()> {
+    println!(rt; "== {name}")?;
+    match File::open(rt, name) {
+        Ok(mut opened) => {
+            stream::run(rt, &mut opened);
+            Ok(())
+        }
+        Err(error) => eprintln!(rt; "{name}: {error}"),
     }
-    stream::run(fd);
-    libc::close(fd);
 }
 
-fn main() {
-    let n = os::arg_count();
-    let mut i: usize = 1;
-    while i < n {
-        file(i);
-        i += 1;
+// Each argument in turn.
+fn main(rt: HostRuntime) -> io::Result<()> {
+    for name in env::args(&rt)?.skip(1) {
+        file(&rt, name.as_str())?;
     }
+    Ok(())
 }

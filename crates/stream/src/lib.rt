@@ -1,5 +1,6 @@
 // A recording printed: read, feed, write. What is read and written is the system's.
 #![tactic(auto)]
+
 ghost use Rattle.std.specs.Prelude.{◌≡◌, ◌+◌, ◌≤◌, ◌<◌, length, take};
 ghost use Rattle.recording.specs.Recording.{program_bytes};
 ghost use Rattle.playback.specs.Playback.{opening};
@@ -8,9 +9,9 @@ ghost use Rattle.reading.specs.Reading.{Inside};
 ghost use Rattle.stream.specs.Phases.{is_over};
 
 use keeping::Keep;
-use libc::STDOUT_FILENO;
 use reading::Input;
 use recording::PROGRAM;
+use std::io::Read;
 use telling::{Phase, Player};
 
 // The size of a window: longer than anything that is left of one.
@@ -41,12 +42,14 @@ fn new_program() -> [u8; PROGRAM]
 }
 
 // Writes a text, and answers whether it could be written; says so if it could not.
-fn write_out(text: &[u8]) -> bool {
-    if io::write_all(STDOUT_FILENO, text) {
-        return true;
+fn write_out(rt: &(impl Print + Eprint), text: &[u8]) -> bool {
+    match rt.write_all(text) {
+        Ok(()) => true,
+        Err(error) => {
+            let _ = eprintln!(rt; "cannot write: {error}");
+            false
+        }
     }
-    os::fail(b"cannot write");
-    false
 }
 
 // A recording of which nothing is read.
@@ -61,14 +64,14 @@ fn started() -> Keep
 }
 
 // Reads on behind what is kept, and says so if it could not.
-fn read_on(fd: i32, buf: &mut [u8], kept: usize) -> Input
+fn read_on<R: Read>(rt: &impl Eprint, reader: &mut R, buf: &mut [u8], kept: usize) -> Input
     requires { kept < length buf.old }
     ensures { (take kept buf.new ≡ take kept buf.old) × Inside kept buf.new result }
 {
-    let got = reading::read_behind(fd, buf, kept);
+    let got = reading::read_behind(reader, buf, kept);
     match got {
         Input::Failed => {
-            os::fail(b"cannot read");
+            let _ = rt.eprintln("cannot read");
         }
         Input::End | Input::Bytes(_) => {}
     }
@@ -76,11 +79,10 @@ fn read_on(fd: i32, buf: &mut [u8], kept: usize) -> Input
 }
 
 // Whether a run has ended.
-fn is_over(player: Player) -> bool
-    ensures { result ≡ is_over player.phase }
+fn is_over(player: &Player) -> bool
+    ensures { result ≡ is_over player.now.phase }
 {
-    let phase = player.phase;
-    match phase {
+    match player.phase {
         Phase::Over => true,
         Phase::Opening => false,
         Phase::Playing => false,
@@ -88,31 +90,36 @@ fn is_over(player: Player) -> bool
 }
 
 // Prints a recording by way of three buffers, window by window.
-fn print_recording(fd: i32, buf: &mut [u8], program: &mut [u8], text: &mut [u8])
+fn print_recording<R: Read>(
+    rt: &(impl Print + Eprint),
+    reader: &mut R,
+    buf: &mut [u8],
+    program: &mut [u8],
+    text: &mut [u8],
+)
     requires { (3 + program_bytes ≤ length buf.old) × ((program_bytes ≤ length program.old) × Roomy buf.old text.old) }
 {
     let mut k = started();
     let mut left = WINDOWS;
     while 0 < left {
         let kept = k.kept;
-        let got = read_on(fd, buf, kept);
+        let got = read_on(rt, reader, buf, kept);
         k = intake::go_on(got, buf, k, program, text);
         let to = k.to;
-        if !write_out(&text[..to]) {
+        if !write_out(rt, &text[..to]) {
             return;
         }
-        let player = k.player;
-        if is_over(player) {
+        if is_over(&k.player) {
             return;
         }
         left -= 1;
     }
 }
 
-// Prints the recording that a descriptor gives. What is read and written is not in the logic, so nothing is promised here.
-pub fn run(fd: i32) {
+// Prints the recording that a reader gives. What is read and written is not in the logic, so nothing is promised here.
+pub fn run<R: Read>(rt: &(impl Print + Eprint), reader: &mut R) {
     let mut buf = new_window();
     let mut program = new_program();
     let mut text = new_text();
-    print_recording(fd, &mut buf, &mut program, &mut text);
+    print_recording(rt, reader, &mut buf, &mut program, &mut text);
 }

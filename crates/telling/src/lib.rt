@@ -1,5 +1,6 @@
 // The scans of a window, told line by line.
 #![tactic(auto)]
+
 ghost use Rattle.std.specs.Prelude.{◌≡◌, ◌+◌, ◌≤◌, length, drop};
 ghost use Rattle.text.specs.Text.{Put};
 ghost use Rattle.lines.specs.Lines.{line_bytes};
@@ -12,7 +13,7 @@ use image::State;
 use playback::Turning;
 
 // How far a recording has come: its program is not all there, its scans are run, or the run has ended.
-#[derive(Drop)]
+#[derive(Clone, Copy)]
 pub enum Phase {
     Opening,
     Playing,
@@ -20,7 +21,7 @@ pub enum Phase {
 }
 
 // A recording on its way: of one whose scans are run the size of its program, and the state.
-#[derive(Drop)]
+#[derive(Clone, Copy)]
 pub struct Player {
     pub phase: Phase,
     pub size: usize,
@@ -41,7 +42,7 @@ impl Player {
 }
 
 // The recording after a window, how many bytes of the window are used up, and the place after its text.
-#[derive(Drop)]
+#[derive(Clone, Copy)]
 pub struct Fed {
     pub player: Player,
     pub used: usize,

@@ -1,2 +1,0 @@
--- The laws that the proof of `hall_cases::distance` cites.
-pub mod Signs

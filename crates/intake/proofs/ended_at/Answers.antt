@@ -1,0 +1,7 @@
+-- `intake::ended_at` meets its contract.
+use borrow.Author.Rules.{rules}
+use Rattle.intake.proofs.ended_at.Goals as goal
+
+pub returns : goal.returns
+returns c =
+    rw c.ended-e.ensures
