@@ -11,7 +11,7 @@ use Rattle.terms.specs.Choice.{pick, every}
 use Rattle.terms.proofs.Choice.{both, never}
 use Rattle.terms.proofs.Every.{every_at}
 use Rattle.numbers.specs.Types.{pin}
-use Rattle.kinds.specs.Kinds.{Field, Kind, kinds, kind_of, fields_of, nothing, types_in, types_of}
+use Rattle.kinds.specs.Kinds.{Field, Kind, kind, kinds, kind_of, listed_fields, fields_of, nothing, types_in, types_of}
 use Rattle.columns.specs.Columns.{no_field, field_of, must_stand, left_code}
 
 module _ (f : Field → ℕ) where
@@ -36,18 +36,18 @@ may_be_left : Field → Bool
 may_be_left f = eqb (left_code f.left_out_as) (pick (eqb f.type pin) 0 must_stand)
 
 pub left_out : (k i : ℕ) → left_code (field_of k i).left_out_as ≡ pick (eqb (field_of k i).type pin) 0 must_stand
-unfolding kind_of may_be_left
+unfolding fields_of may_be_left
 left_out k i =
     eqb-true (left_code (field_of k i).left_out_as) (pick (eqb (field_of k i).type pin) 0 must_stand)
-    (every_at may_be_left (fields_of k) i (every_at (λ (r : Kind). every may_be_left r.fields) kinds k refl refl) refl)
+    (every_at may_be_left (fields_of k) i (every_at (λ (fs : List Field). every may_be_left fs) listed_fields k refl refl) refl)
 
 -- no kind has more fields than five
-few : Kind → Bool
-few r = leb (length r.fields) 5
+few : List Field → Bool
+few fs = leb (length fs) 5
 
 pub fields_few : (k : ℕ) → length (fields_of k) ≤ 5
-unfolding kind_of few
-fields_few k = leb-true (length (fields_of k)) 5 (every_at few kinds k refl refl)
+unfolding fields_of few
+fields_few k = leb-true (length (fields_of k)) 5 (every_at few listed_fields k refl refl)
 
 -- the table's column of types is that of the fields' types
 same : List ℕ → List ℕ → Bool
@@ -65,9 +65,25 @@ same_equal (x ∷ xs) (y ∷ ys) e =
     let o = both (eqb x y) (same xs ys) e in
     rw (eqb-true x y o.0, same_equal xs ys o.1)
 
+same_rows : List Kind → List (List Field) → Bool
+same_rows [] [] = true
+same_rows [] (fs ∷ rest) = false
+same_rows (r ∷ rs) [] = false
+same_rows (r ∷ rs) (fs ∷ rest) = same r.types (types_in fs) && same_rows rs rest
+
+rows_equal :
+    (rs : List Kind) (rest : List (List Field)) (k : ℕ) → same_rows rs rest ≡ true →
+    (get_or rs k (kind [] 0 false)).types ≡ types_in (get_or rest k [])
+unfolding same_rows
+rows_equal [] [] k e = refl
+rows_equal [] (fs ∷ rest) k e = never (sym e)
+rows_equal (r ∷ rs) [] k e = never (sym e)
+rows_equal (r ∷ rs) (fs ∷ rest) zero e = same_equal r.types (types_in fs) (both (same r.types (types_in fs)) (same_rows rs rest) e).0
+rows_equal (r ∷ rs) (fs ∷ rest) (suc k) e = rows_equal rs rest k (both (same r.types (types_in fs)) (same_rows rs rest) e).1
+
 pub types_are : (k : ℕ) → types_of k ≡ types_in (fields_of k)
-unfolding kind_of same
-types_are k = same_equal (types_of k) (types_in (fields_of k)) (every_at (λ (r : Kind). same r.types (types_in r.fields)) kinds k refl refl)
+unfolding kind_of fields_of same same_rows
+types_are k = rows_equal kinds listed_fields k refl
 
 types_at : (fs : List Field) (i : ℕ) → get_or (types_in fs) i nothing ≡ (get_or fs i no_field).type
 types_at [] i = refl

@@ -63,7 +63,7 @@ pub fn take_in(
     outputs: &[u8; 200],
 ) -> TakeAnswer
     ensures value { result ≡ taken_in (image (log_before counts times numbers) (columns ticks.now words.now pins.now outputs.now)) }
-    ensures after { image (log_after counts times numbers) (columns ticks.now words.now pins.now outputs.now)
+    ensures after { image (log_after counts times numbers) (columns ticks.exit.now words.exit.now pins.exit.now outputs.exit.now)
         ≡ after_take (image (log_before counts times numbers) (columns ticks.now words.now pins.now outputs.now)) }
 {
     image::columns_sized(ticks, words, pins, outputs);

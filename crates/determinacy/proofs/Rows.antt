@@ -20,7 +20,7 @@ use Rattle.intake.specs.Intake.{Ended, WentOn, fails, ends, reads}
 use seplogic.Ra.Ura.{Ura}
 use base.Logic.{ent, emp}
 use types.Logic.{Logic}
-use Rattle.determinacy.specs.Determinacy.{Determined, DeterminedWith, log_from, columns_from, image_from, arrays_from}
+use Rattle.determinacy.specs.Determinacy.{Determined, DeterminedWith, log_from, columns_from, image_from, image_read_from, arrays_from}
 use Rattle.determinacy.proofs.Facts.{two, four, determined, determined_with}
 use Rattle.terms.specs.contracts.signed as terms_signed
 use Rattle.terms.specs.contracts.hold as terms_hold
@@ -377,8 +377,8 @@ module _ {M : Type 1} {𝓤 : Ura M} (𝓛 : Logic 𝓤) where
   pub console_scan_in_row : ent 𝓤 (emp 𝓤) (DeterminedWith 𝓛 console_scan_in.ended (console_scan_in.clauses 𝓛) (λ κ u. image_from u.1))
   console_scan_in_row = determined_with 𝓛 console_scan_in.ended (console_scan_in.clauses 𝓛) (λ κ u. image_from u.1) (λ κs a g x y u v. four 𝓤 _ _ _ _ _ (λ h h' k k'. (h ∙ sym k, h' ∙ sym k')))
 
-  pub console_take_in_row : ent 𝓤 (emp 𝓤) (DeterminedWith 𝓛 console_take_in.ended (console_take_in.clauses 𝓛) (λ κ u. image_from u))
-  console_take_in_row = determined_with 𝓛 console_take_in.ended (console_take_in.clauses 𝓛) (λ κ u. image_from u) (λ κs a g x y u v. four 𝓤 _ _ _ _ _ (λ h h' k k'. (h ∙ sym k, h' ∙ sym k')))
+  pub console_take_in_row : ent 𝓤 (emp 𝓤) (DeterminedWith 𝓛 console_take_in.ended (console_take_in.clauses 𝓛) (λ κ u. image_read_from u))
+  console_take_in_row = determined_with 𝓛 console_take_in.ended (console_take_in.clauses 𝓛) (λ κ u. image_read_from u) (λ κs a g x y u v. four 𝓤 _ _ _ _ _ (λ h h' k k'. (h ∙ sym k, h' ∙ sym k')))
 
   pub states_put_state_row : ent 𝓤 (emp 𝓤) (DeterminedWith 𝓛 states_put_state.ended (states_put_state.clauses 𝓛) (λ κ u. image_from u.1))
   states_put_state_row = determined_with 𝓛 states_put_state.ended (states_put_state.clauses 𝓛) (λ κ u. image_from u.1) (λ κs a g x y u v. two 𝓤 _ _ _ (λ h k. (refl, h ∙ sym k)))
@@ -387,7 +387,7 @@ module _ {M : Type 1} {𝓤 : Ura M} (𝓛 : Logic 𝓤) where
   states_state_in_row = determined 𝓛 states_state_in.ended (states_state_in.clauses 𝓛) (λ κs a g x y u v. two 𝓤 _ _ _ (λ h k. cc))
 
   pub hall_scan_row : ent 𝓤 (emp 𝓤) (Determined 𝓛 hall_scan.ended (hall_scan.clauses 𝓛))
-  hall_scan_row = determined 𝓛 hall_scan.ended (hall_scan.clauses 𝓛) (λ κs a g x y u v. two 𝓤 _ _ _ (λ h k. cc))
+  hall_scan_row = determined 𝓛 hall_scan.ended (hall_scan.clauses 𝓛) (λ κs a g x y u v. four 𝓤 _ _ _ _ _ (λ h h' k k'. h ∙ sym k))
 
   pub hall_take_row : ent 𝓤 (emp 𝓤) (Determined 𝓛 hall_take.ended (hall_take.clauses 𝓛))
   hall_take_row = determined 𝓛 hall_take.ended (hall_take.clauses 𝓛) (λ κs a g x y u v. two 𝓤 _ _ _ (λ h k. cc))
@@ -401,8 +401,8 @@ module _ {M : Type 1} {𝓤 : Ura M} (𝓛 : Logic 𝓤) where
   pub lanwezik_scan_in_row : ent 𝓤 (emp 𝓤) (DeterminedWith 𝓛 lanwezik_scan_in.ended (lanwezik_scan_in.clauses 𝓛) (λ κ u. image_from u.1))
   lanwezik_scan_in_row = determined_with 𝓛 lanwezik_scan_in.ended (lanwezik_scan_in.clauses 𝓛) (λ κ u. image_from u.1) (λ κs a g x y u v. four 𝓤 _ _ _ _ _ (λ h h' k k'. (h ∙ sym k, h' ∙ sym k')))
 
-  pub lanwezik_take_in_row : ent 𝓤 (emp 𝓤) (DeterminedWith 𝓛 lanwezik_take_in.ended (lanwezik_take_in.clauses 𝓛) (λ κ u. image_from u))
-  lanwezik_take_in_row = determined_with 𝓛 lanwezik_take_in.ended (lanwezik_take_in.clauses 𝓛) (λ κ u. image_from u) (λ κs a g x y u v. four 𝓤 _ _ _ _ _ (λ h h' k k'. (h ∙ sym k, h' ∙ sym k')))
+  pub lanwezik_take_in_row : ent 𝓤 (emp 𝓤) (DeterminedWith 𝓛 lanwezik_take_in.ended (lanwezik_take_in.clauses 𝓛) (λ κ u. image_read_from u))
+  lanwezik_take_in_row = determined_with 𝓛 lanwezik_take_in.ended (lanwezik_take_in.clauses 𝓛) (λ κ u. image_read_from u) (λ κs a g x y u v. four 𝓤 _ _ _ _ _ (λ h h' k k'. (h ∙ sym k, h' ∙ sym k')))
 
   pub lanwezik_formula_row : ent 𝓤 (emp 𝓤) (Determined 𝓛 lanwezik_formula.ended (lanwezik_formula.clauses 𝓛))
   lanwezik_formula_row = determined 𝓛 lanwezik_formula.ended (lanwezik_formula.clauses 𝓛) (λ κs a g x y u v. two 𝓤 _ _ _ (λ h k. formulas_same _ h k))
@@ -446,7 +446,7 @@ module _ {M : Type 1} {𝓤 : Ura M} (𝓛 : Logic 𝓤) where
   pub telling_play_row : ent 𝓤 (emp 𝓤) (DeterminedWith 𝓛 telling_play.ended (telling_play.clauses 𝓛) (λ κ u. u.1.1.1.1.0.now))
   telling_play_row = determined_with 𝓛 telling_play.ended (telling_play.clauses 𝓛) (λ κ u. u.1.1.1.1.0.now) (λ κs a g x y u v. two 𝓤 _ _ _ (λ h k. (h.answer ∙ sym k.answer, h.bytes ∙ sym k.bytes)))
 
-  pub feeding_feed_row : ent 𝓤 (emp 𝓤) (DeterminedWith {L = List ℕ × List ℕ} 𝓛 feeding_feed.ended (feeding_feed.clauses 𝓛) (λ κ u. (u.1.1.0.now, u.1.1.1.0.now)))
+  pub feeding_feed_row : ent 𝓤 (emp 𝓤) (DeterminedWith 𝓛 {L = List ℕ × List ℕ} feeding_feed.ended (feeding_feed.clauses 𝓛) (λ κ u. (u.1.1.0.now, u.1.1.1.0.now)))
   feeding_feed_row = determined_with 𝓛 feeding_feed.ended (feeding_feed.clauses 𝓛) {L = List ℕ × List ℕ} (λ κ u. (u.1.1.0.now, u.1.1.1.0.now)) (λ κs a g x y u v. two 𝓤 _ _ _ (λ h k. (h.told.answer ∙ sym k.told.answer, same_two (h.program ∙ sym k.program) (h.told.bytes ∙ sym k.told.bytes))))
 
   pub feeding_finish_row : ent 𝓤 (emp 𝓤) (DeterminedWith 𝓛 feeding_finish.ended (feeding_finish.clauses 𝓛) (λ κ u. u.1.1.0.now))
@@ -456,11 +456,10 @@ module _ {M : Type 1} {𝓤 : Ura M} (𝓛 : Logic 𝓤) where
   reading_told_by_row = determined 𝓛 reading_told_by.ended (reading_told_by.clauses 𝓛) (λ κs a g x y u v. two 𝓤 _ _ _ (λ h k. cc))
 
   pub reading_move_down_row : ent 𝓤 (emp 𝓤) (DeterminedWith 𝓛 reading_move_down.ended (reading_move_down.clauses 𝓛) (λ κ u. u.0.now))
-  reading_move_down_row = determined_with 𝓛 reading_move_down.ended (reading_move_down.clauses 𝓛) (λ κ u. u.0.now) (λ κs a g x y u v. four 𝓤 _ _ _ _ _ (λ h h' k k'. (h ∙ sym k, h' ∙ sym k')))
+  reading_move_down_row = determined_with 𝓛 reading_move_down.ended (reading_move_down.clauses 𝓛) (λ κ u. u.0.now) (λ κs a g x y u v. two 𝓤 _ _ _ (λ h k. (h.0 ∙ sym k.0, h.1 ∙ sym k.1)))
 
-  pub keeping_feed_window_row : ent 𝓤 (emp 𝓤) (DeterminedWith {L = List ℕ × (List ℕ × List ℕ)} 𝓛 keeping_feed_window.ended (keeping_feed_window.clauses 𝓛) (λ κ u. (u.0.now, (u.1.1.1.0.now, u.1.1.1.1.0.now))))
+  pub keeping_feed_window_row : ent 𝓤 (emp 𝓤) (DeterminedWith 𝓛 {L = List ℕ × (List ℕ × List ℕ)} keeping_feed_window.ended (keeping_feed_window.clauses 𝓛) (λ κ u. (u.0.now, (u.1.1.1.0.now, u.1.1.1.1.0.now))))
   keeping_feed_window_row = determined_with 𝓛 keeping_feed_window.ended (keeping_feed_window.clauses 𝓛) {L = List ℕ × (List ℕ × List ℕ)} (λ κ u. (u.0.now, (u.1.1.1.0.now, u.1.1.1.1.0.now))) (λ κs a g x y u v. two 𝓤 _ _ _ (λ h k. kept_same h k))
 
-  pub intake_go_on_row : ent 𝓤 (emp 𝓤) (DeterminedWith {L = List ℕ × (List ℕ × List ℕ)} 𝓛 intake_go_on.ended (intake_go_on.clauses 𝓛) (λ κ u. (u.1.0.now, (u.1.1.1.0.now, u.1.1.1.1.0.now))))
+  pub intake_go_on_row : ent 𝓤 (emp 𝓤) (DeterminedWith 𝓛 {L = List ℕ × (List ℕ × List ℕ)} intake_go_on.ended (intake_go_on.clauses 𝓛) (λ κ u. (u.1.0.now, (u.1.1.1.0.now, u.1.1.1.1.0.now))))
   intake_go_on_row = determined_with 𝓛 intake_go_on.ended (intake_go_on.clauses 𝓛) {L = List ℕ × (List ℕ × List ℕ)} (λ κ u. (u.1.0.now, (u.1.1.1.0.now, u.1.1.1.1.0.now))) (λ κs a g x y u v. two 𝓤 _ _ _ (λ h k. went_same h k))
-

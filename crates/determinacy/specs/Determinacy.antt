@@ -1,7 +1,7 @@
 -- Document 01, "What the contracts owe": "Each public function's contract gives one possible answer and one possible state for each input".
 -- `clauses` of a function is its contract, as Rattle reads it off the source; `learnt` is what its `ensures` says of an answer and of what is lent, at exit.
 use Rattle.std.specs.Prelude.{Bool, List, ◌≡◌, ℕ, ℤ}
-use Rattle.std.specs.Borrow.{MutBor}
+use Rattle.std.specs.Borrow.{Bor, MutBor}
 use seplogic.Ra.Ura.{Ura}
 use base.Logic.{SProp}
 use types.Logic.{Logic}
@@ -114,9 +114,12 @@ use Rattle.keeping.specs.contracts.feed_window as keeping_feed_window
 use Rattle.intake.specs.contracts.go_on as intake_go_on
 use Rattle.io.specs.contracts.buffer as io_buffer
 
--- an array at exit, and the log, the columns, the image and a scan's arrays that the parameters from one on are
+-- an array at exit, lent for writing or for reading, and the log, the columns, the image and a scan's arrays that the parameters from one on are
 abbrev Exit : Type 0 → Type 0
 Exit A = MutBor (List A)
+
+abbrev Read : Type 0 → Type 0
+Read A = Bor (List A)
 
 abbrev pub log_from : {Z : Type 0} → Exit ℕ × (Exit ℕ × (Exit ℕ × Z)) → Log
 log_from u = log u.0.now u.1.0.now u.1.1.0.now
@@ -126,6 +129,10 @@ columns_from u = columns u.0.now u.1.0.now u.1.1.0.now u.1.1.1.0.now
 
 abbrev pub image_from : {Z : Type 0} → Exit ℕ × (Exit ℕ × (Exit ℕ × (Exit ℕ × (Exit ℤ × (Exit ℕ × (Exit ℕ × Z)))))) → Image
 image_from u = image (log_from u) (columns_from u.1.1.1)
+
+-- the same where the columns are lent for reading
+abbrev pub image_read_from : {Z : Type 0} → Exit ℕ × (Exit ℕ × (Exit ℕ × (Read ℕ × (Read ℤ × (Read ℕ × (Read ℕ × Z)))))) → Image
+image_read_from u = image (log_from u) (columns u.1.1.1.0.now u.1.1.1.1.0.now u.1.1.1.1.1.0.now u.1.1.1.1.1.1.0.now)
 
 abbrev pub arrays_from : {Z : Type 0} → Exit Bool × (Exit ℤ × (Exit ℕ × (Exit ℕ × Z))) → Arrays
 arrays_from u = arrays u.0.now u.1.0.now u.1.1.0.now u.1.1.1.0.now
@@ -232,7 +239,7 @@ module _ {M : Type 1} {𝓤 : Ura M} (𝓛 : Logic 𝓤) where
       ∧ₛ Determined calls_refuse_after.ended (calls_refuse_after.clauses 𝓛)
       ∧ₛ Determined calls_refuse_take.ended (calls_refuse_take.clauses 𝓛)
       ∧ₛ DeterminedWith console_scan_in.ended (console_scan_in.clauses 𝓛) (λ κ u. image_from u.1)
-      ∧ₛ DeterminedWith console_take_in.ended (console_take_in.clauses 𝓛) (λ κ u. image_from u)
+      ∧ₛ DeterminedWith console_take_in.ended (console_take_in.clauses 𝓛) (λ κ u. image_read_from u)
       ∧ₛ DeterminedWith states_put_state.ended (states_put_state.clauses 𝓛) (λ κ u. image_from u.1)
       ∧ₛ Determined states_state_in.ended (states_state_in.clauses 𝓛)
       ∧ₛ Determined hall_scan.ended (hall_scan.clauses 𝓛)
@@ -240,7 +247,7 @@ module _ {M : Type 1} {𝓤 : Ura M} (𝓛 : Logic 𝓤) where
       ∧ₛ Determined lanwezik_accept.ended (lanwezik_accept.clauses 𝓛)
       ∧ₛ DeterminedWith lanwezik_fresh_in.ended (lanwezik_fresh_in.clauses 𝓛) (λ κ u. image_from u)
       ∧ₛ DeterminedWith lanwezik_scan_in.ended (lanwezik_scan_in.clauses 𝓛) (λ κ u. image_from u.1)
-      ∧ₛ DeterminedWith lanwezik_take_in.ended (lanwezik_take_in.clauses 𝓛) (λ κ u. image_from u)
+      ∧ₛ DeterminedWith lanwezik_take_in.ended (lanwezik_take_in.clauses 𝓛) (λ κ u. image_read_from u)
       ∧ₛ Determined lanwezik_formula.ended (lanwezik_formula.clauses 𝓛)
       ∧ₛ DeterminedWith text_put.ended (text_put.clauses 𝓛) (λ κ u. u.0.now)
       ∧ₛ DeterminedWith text_put_number.ended (text_put_number.clauses 𝓛) (λ κ u. u.0.now)

@@ -11,7 +11,7 @@ use lib.Dec.{T, eqb, ltb, ltb→lt}
 use borrow.Author.Tests.{ne_eqb}
 use Rattle.terms.proofs.Table.{every, at}
 use Rattle.words.specs.Words.{word_count}
-use Rattle.kinds.specs.Kinds.{LeftOut, never, reads, Field, Kind, kind, kinds, kind_of, fields_of}
+use Rattle.kinds.specs.Kinds.{LeftOut, never, reads, Field, kind, kind_of, fields_of, listed_fields}
 use Rattle.columns.specs.Columns.{no_field, field_of, left_code}
 use Rattle.layout.specs.Listed.{leaves_out, field_text}
 use Rattle.fields.specs.Codes.{IsField, codes_text}
@@ -37,10 +37,10 @@ named : ℕ → Field → Bool
 named i f = ltb f.name word_count
 
 pub name_known : {k i : ℕ} → IsField k i → (field_of k i).name < word_count
-unfolding kind_of named
+unfolding kind_of fields_of named
 name_known {k} {i} h =
     let t : T (eqb k 0 || every named no_field 0 (fields_of k)) =
-    at (λ (k : ℕ) (r : Kind). eqb k 0 || every named no_field 0 r.fields) (kind [] 0 false) kinds tt k h.known in
+    at (λ (k : ℕ) (fs : List Field). eqb k 0 || every named no_field 0 fs) [] listed_fields tt k h.known in
     let u : T (every named no_field 0 (fields_of k)) = rw (ne_eqb k 0 (λ z. omega arith)) at t in
     ltb→lt (field_of k i).name word_count (at named no_field (fields_of k) u i h.there)
 

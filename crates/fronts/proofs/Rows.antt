@@ -10,7 +10,7 @@ use borrow.Author.Tests.{eqb-true, eqb-false}
 use Rattle.numbers.specs.Blocks.{Content, tree, Expr, Block}
 use Rattle.numbers.specs.Types.{number_types}
 use Rattle.writing.specs.Expressions.{Proper}
-use Rattle.kinds.specs.Kinds.{expression, nothing, kind_of, types_of}
+use Rattle.kinds.specs.Kinds.{expression, nothing, kind_of, types_of, fields_of}
 use Rattle.kinds.proofs.KindTable.{types_few, type_plain}
 use Rattle.forms.specs.Written.{content_numbers, field_numbers}
 use Rattle.forms.proofs.Numbers.{content_numbers_lem}
@@ -50,7 +50,7 @@ tree_alone b e (c ∷ []) f (spelt_number v l h g, k) = absurd (omega arith)
 
 -- only a BL, kind 0, has an expression
 pub row_of : (b : Block) → SpeltBlock b → Row b
-unfolding kind_of
+unfolding kind_of fields_of
 row_of b h = go (eqb b.kind 0) refl
   where
     go : (z : Bool) → eqb b.kind 0 ≡ z → Row b

@@ -16,7 +16,7 @@ use Rattle.numbers.specs.Types.{number_types, kind_count, word_pin, limits}
 use Rattle.writing.specs.Expressions.{InRange}
 use Rattle.shown.proofs.Read.{read_proper}
 use Rattle.values.specs.Values.{in_field}
-use Rattle.kinds.specs.Kinds.{LeftOut, never, reads, Field, Kind, kind, kinds, kind_of, fields_of, types_in}
+use Rattle.kinds.specs.Kinds.{LeftOut, never, reads, Field, kind, kind_of, fields_of, types_in, listed_fields}
 use Rattle.columns.proofs.Rows.{types_are}
 use Rattle.program.specs.Program.{Program}
 use Rattle.forms.specs.Written.{Each}
@@ -40,8 +40,8 @@ is_true true t = refl
 is_true false t = absurd t
 
 smalls : (k : ℕ) → k < kind_count → Smalls (fields_of k)
-unfolding Smalls small_left kind_of
-smalls k h = is_true _ (entry (λ (k : ℕ) (r : Kind). every small_left r.fields) (kind [] 0 false) kinds tt k h)
+unfolding Smalls small_left kind_of fields_of
+smalls k h = is_true _ (entry (λ (k : ℕ) (fs : List Field). every small_left fs) [] listed_fields tt k h)
 
 -- a type with a number below its limit is a type of number
 type_known : (ty v : ℕ) → v < get_or limits ty 0 → ty < number_types

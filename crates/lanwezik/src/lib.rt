@@ -133,7 +133,7 @@ pub fn lanwezik_take_in(
     outputs: &[u8; 200],
 ) -> Given
     ensures value { result ≡ given (taken_in (image (log_before counts times numbers) (columns ticks.now words.now pins.now outputs.now))) }
-    ensures after { image (log_after counts times numbers) (columns ticks.now words.now pins.now outputs.now)
+    ensures after { image (log_after counts times numbers) (columns ticks.exit.now words.exit.now pins.exit.now outputs.exit.now)
         ≡ after_take (image (log_before counts times numbers) (columns ticks.now words.now pins.now outputs.now)) }
 {
     let a = console::take_in(counts, times, numbers, ticks, words, pins, outputs);

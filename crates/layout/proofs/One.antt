@@ -55,7 +55,7 @@ unfolding in_field
 no_number v e = let o = both (ltb v 0) _ e in omega (arith, ltb-true v 0 o.0)
 
 formulated : (cs : List Content) (w : List ℕ) → Fields (fields_of 0) cs w → Formulated cs w
-unfolding kind_of
+unfolding kind_of fields_of
 formulated cs w (given n v h x) = absurd (no_number v h)
 formulated cs w (left_out v e x) = absurd (let z : ◌≡◌ {A = ℕ} 0 1 = cc in omega arith)
 formulated cs w (formula {t = t} {w = u} e x) = record { tree_of = t; text = u; reads_as = x; is = refl; whole = refl }

@@ -14,7 +14,7 @@ use Rattle.wire.specs.Facts.{Stands}
 use Rattle.numbers.specs.Types.{number_types, kind_count}
 use Rattle.grammar.specs.Grammar.{space}
 use Rattle.words.specs.Words.{word_text}
-use Rattle.kinds.specs.Kinds.{Field, Kind, kind, kinds, kind_of, fields_of}
+use Rattle.kinds.specs.Kinds.{Field, kind, kinds, kind_of, fields_of, listed_fields}
 use Rattle.layout.specs.Layout.{equals}
 
 -- whether two words are the same
@@ -91,10 +91,10 @@ is_true false t = absurd t
 
 -- the fields of every kind but BL
 pub row_of : (k : ℕ) → 0 < k → k < kind_count → Row (fields_of k)
-unfolding kind_of good_row good_name unlike same word_text other
+unfolding kind_of fields_of good_row good_name unlike same word_text other
 row_of k l h =
     let t : T (eqb k 0 || good_row (fields_of k)) =
-    entry (λ (k : ℕ) (r : Kind). eqb k 0 || good_row r.fields) (kind [] 0 false) kinds tt k h in
+    entry (λ (k : ℕ) (fs : List Field). eqb k 0 || good_row fs) [] listed_fields tt k h in
     a_row (fields_of k) (is_true (good_row (fields_of k)) (rw (ne_eqb k 0 (λ z. omega arith)) at t))
 
 -- two words with `=` behind them that stand at one place are one

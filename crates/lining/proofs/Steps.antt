@@ -19,7 +19,7 @@ use Rattle.words.specs.Words.{word_count, words, word_text}
 use Rattle.values.specs.declared.Value.{Value}
 use Rattle.values.specs.declared.Value.TheVariants.{Got, Bad}
 use Rattle.values.specs.Reading.{value_at}
-use Rattle.kinds.specs.Kinds.{LeftOut, never, reads, Field, Kind, kinds, kind_of, fields_of}
+use Rattle.kinds.specs.Kinds.{LeftOut, never, reads, Field, kind_of, fields_of, listed_fields}
 use Rattle.columns.specs.Columns.{no_field, field_of, must_stand, left_code}
 use Rattle.layout.specs.Fields.{Found, found, lost, before, named_at, value_place, leaves, taken, fields_from}
 use Rattle.layout.proofs.Valued.{value_told}
@@ -53,10 +53,10 @@ apart never = true
 apart (reads v) = ltb v must_stand
 
 left_apart : (k i : ℕ) → apart (field_of k i).left_out_as ≡ true
-unfolding kind_of apart
+unfolding kind_of fields_of apart
 left_apart k i =
     every_at (λ (f : Field). apart f.left_out_as) (fields_of k) i
-    (every_at (λ (r : Kind). every (λ (f : Field). apart f.left_out_as) r.fields) kinds k refl refl) refl
+    (every_at (λ (fs : List Field). every (λ (f : Field). apart f.left_out_as) fs) listed_fields k refl refl) refl
 
 pub must_stand_lem : (k i at : ℕ) → left_code (field_of k i).left_out_as ≡ must_stand → left_at (field_of k i).left_out_as at ≡ Bad
 unfolding apart

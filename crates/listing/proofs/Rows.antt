@@ -37,7 +37,7 @@ tree_row r = and_then r (λ t n. got (tree t ∷ []) n)
 
 module _ (k : Marks) (s : List ℕ) (at : ℕ) where
   tree_read : row_at k 0 s at ≡ tree_row (expr_at k most_deep most_nodes s at)
-  unfolding kind_of fields_at content_at tree_row
+  unfolding kind_of fields_of fields_at content_at tree_row
   tree_read = go (expr_at k most_deep most_nodes s at)
     where
       go :
@@ -54,7 +54,7 @@ module _ (k : Marks) (s : List ℕ) (at : ℕ) where
     formula_there = got_first (expr_at k most_deep most_nodes s at) _ read_as_tree
 
     pub formula_text : space ∷ text_in (expr_at k most_deep most_nodes s at) ≡ row_text kind (row_at k kind s at)
-    unfolding tree_row kind_of fields_text
+    unfolding tree_row kind_of fields_of fields_text
     formula_text = rw (e, tree_read) (go (expr_at k most_deep most_nodes s at) read_as_tree)
       where
         go : (r : Read Expr) → IsGot (tree_row r) → space ∷ text_in r ≡ row_text 0 (tree_row r)
@@ -109,7 +109,7 @@ module _ (k : Marks) (s : List ℕ) (at : ℕ) {kind : ℕ} where
           (codes_same (fields_of kind) cs _ o.0 o.1)
 
   one_type : kind ≡ 0 → length (types_of kind) ≡ 1
-  unfolding kind_of
+  unfolding kind_of fields_of
   one_type z = rw z
 
   -- no row has more nodes than an expression may have

@@ -80,7 +80,7 @@ fields_in_form (f ∷ fs) before (c ∷ cs) r h = go h.0 (fields_in_form fs (set
 
 -- those of a BL
 formula_in_form : (cs : List Content) → FieldsHold (types_in (fields_of 0)) 0 cs → Fields (fields_of 0) cs (fields_text (fields_of 0) cs)
-unfolding fields_text kind_of
+unfolding fields_text kind_of fields_of
 formula_in_form [] h = absurd h
 formula_in_form (c ∷ []) h = go h.0
   where

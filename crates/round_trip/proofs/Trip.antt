@@ -16,7 +16,7 @@ use Rattle.terms.proofs.Table.{at as entry}
 use Rattle.wire.specs.Facts.{Bytes}
 use Rattle.wire.specs.Reading.{Read, got}
 use Rattle.numbers.specs.Types.{pin, kind_count}
-use Rattle.kinds.specs.Kinds.{LeftOut, never, reads, Field, Kind, kind, kinds, kind_of, fields_of}
+use Rattle.kinds.specs.Kinds.{LeftOut, never, reads, Field, kind_of, fields_of, listed_fields}
 use Rattle.program.specs.Program.{Program, program_at}
 use Rattle.program.specs.Acceptance.{every_block, accepted}
 use Rattle.forms.specs.Written.{Each}
@@ -116,5 +116,5 @@ is_true true t = refl
 is_true false t = absurd t
 
 pub left_out : (k : ℕ) → k < kind_count → Each LeftOutIfOff (fields_of k)
-unfolding kind_of plain_field
-left_out k h = all_left (fields_of k) (is_true _ (entry (λ (k : ℕ) (r : Kind). every plain_field r.fields) (kind [] 0 false) kinds tt k h))
+unfolding kind_of fields_of plain_field
+left_out k h = all_left (fields_of k) (is_true _ (entry (λ (k : ℕ) (fs : List Field). every plain_field fs) [] listed_fields tt k h))

@@ -79,10 +79,11 @@ fn read_on<R: Read>(rt: &impl Eprint, reader: &mut R, buf: &mut [u8], kept: usiz
 }
 
 // Whether a run has ended.
-fn is_over(player: &Player) -> bool
-    ensures { result ≡ is_over player.now.phase }
+fn is_over(player: Player) -> bool
+    ensures { result ≡ is_over player.phase }
 {
-    match player.phase {
+    let phase = player.phase;
+    match phase {
         Phase::Over => true,
         Phase::Opening => false,
         Phase::Playing => false,
@@ -109,7 +110,8 @@ fn print_recording<R: Read>(
         if !write_out(rt, &text[..to]) {
             return;
         }
-        if is_over(&k.player) {
+        let player = k.player;
+        if is_over(player) {
             return;
         }
         left -= 1;

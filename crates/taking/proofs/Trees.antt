@@ -26,7 +26,7 @@ use Rattle.parsing.specs.Listing.{places, no_nodes, nodes_of, Lists, lists, list
 use Rattle.parsing.proofs.Trees.{numbers_of}
 use Rattle.formula.proofs.Bounds.{Treed}
 use Rattle.values.specs.Values.{in_field}
-use Rattle.kinds.specs.Kinds.{expression, bare_field, kind_of}
+use Rattle.kinds.specs.Kinds.{expression, bare_field, kind_of, fields_of}
 use Rattle.forms.specs.Written.{block_numbers}
 use Rattle.fronts.specs.Fronts.{small, most_kept}
 use Rattle.layout.specs.Layout.{Fields, given, left_out, formula}
@@ -96,11 +96,11 @@ module _ (s : List ℕ) (at : ℕ) where
 
   -- a space and a formula, and no other
   pub tree_said : (b : Block) → RestSays 0 s at b → TreeRest b
-  unfolding kind_of
+  unfolding kind_of fields_of
   tree_said b (rest_says {cs = cs} {w = w} f x) = bare cs w f x
 
   says_tree : (t : Expr) → byte_at s at ≡ space → Formula (drop (at + 1) s) t → RestSays 0 s at (tree_block t)
-  unfolding kind_of
+  unfolding kind_of fields_of
   says_tree t e y =
       let h = there s at space (omega arith) e in
       rest_says (formula refl y)

@@ -4,7 +4,6 @@ use lib.ListN.{take}
 use lib.Seq.{length-take-le}
 use Rattle.playback.specs.Playback.{playing, fed}
 use Rattle.feeding.proofs.Stages.{over_fed, stage_told, left_told, front_of}
-use borrow.Author.Rules.{rules}
 use Rattle.feeding.proofs.feed.Goals as goal
 
 pub slice_bounds-play-end-in-Playing : goal.slice_bounds-play-end-in-Playing

@@ -8,7 +8,6 @@ use Rattle.text.specs.Text.{Put}
 use Rattle.image.specs.declared.State.{State}
 use Rattle.playback.specs.Playback.{cut_scan, cut_program, playing, finished}
 use Rattle.telling.specs.Lines.{line_for, lines_for}
-use borrow.Author.Rules.{rules}
 use Rattle.feeding.proofs.finish.Goals as goal
 
 -- nothing is left, or something is

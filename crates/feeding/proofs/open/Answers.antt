@@ -1,10 +1,7 @@
 -- `feeding::open` meets its contract: the recording waits, ends, or goes on to its scans.
-use Prim.Native.Nat.{◌≤◌}
 use mathlib.Core.Path.{sym}
-use lib.ListN.{length}
 use lib.Seq.{length-take-le}
 use Rattle.feeding.proofs.Opens.{waits_open, bad_open, refused_open, open_fits, plays_open}
-use borrow.Author.Rules.{rules}
 use Rattle.feeding.proofs.open.Goals as goal
 
 pub slice_bounds-play-end : goal.slice_bounds-play-end

@@ -1,5 +1,4 @@
 -- `intake::ended_at` meets its contract.
-use borrow.Author.Rules.{rules}
 use Rattle.intake.proofs.ended_at.Goals as goal
 
 pub returns : goal.returns

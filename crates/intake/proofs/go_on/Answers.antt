@@ -4,7 +4,6 @@ use native.Mathlib.Omega.{arith}
 use lib.Seq.{length-take-le}
 use Rattle.intake.specs.Intake.{reads}
 use Rattle.intake.proofs.Goes.{behind, line_fits, said_nothing, told_at_end}
-use borrow.Author.Rules.{rules}
 use Rattle.intake.proofs.go_on.Goals as goal
 
 pub slice_bounds-finish-end-in-End : goal.slice_bounds-finish-end-in-End

@@ -2,7 +2,6 @@
 use mathlib.Core.Path.{sym}
 use lib.Seq.{length-take-le}
 use Rattle.keeping.proofs.Keeps.{roomy_front, used_few, kept_so}
-use borrow.Author.Rules.{rules}
 use Rattle.keeping.proofs.feed_window.Goals as goal
 
 pub slice_bounds-feed-end-2 : goal.slice_bounds-feed-end-2

@@ -1,6 +1,5 @@
 -- `lanwezik::lanwezik_accept` meets its contract: the answer of `accept` in wider fields.
 use mathlib.Core.Path.{ap}
-use borrow.Author.Rules.{rules}
 use Rattle.lanwezik.specs.Answers.{acceptance}
 use Rattle.lanwezik.proofs.lanwezik_accept.Goals as goal
 

@@ -1,5 +1,4 @@
 -- `lanwezik::lanwezik_formula` meets its contract: the same numbers in wider fields.
-use borrow.Author.Rules.{rules}
 use Rattle.lanwezik.specs.Answers.{formulas}
 use Rattle.lanwezik.proofs.lanwezik_formula.Goals as goal
 

@@ -1,6 +1,5 @@
 -- `lanwezik::lanwezik_scan_in` meets its contract: the answer of `scan_in` in wider fields.
 use mathlib.Core.Path.{ap}
-use borrow.Author.Rules.{rules}
 use Rattle.lanwezik.specs.Answers.{scanned}
 use Rattle.lanwezik.proofs.lanwezik_scan_in.Goals as goal
 

@@ -1,6 +1,5 @@
 -- `lanwezik::lanwezik_take_in` meets its contract: the answer of `take_in` in wider fields.
 use mathlib.Core.Path.{◌≡◌, ap, ◌∙◌}
-use borrow.Author.Rules.{rules}
 use mir.Val.{bool_byte}
 use Rattle.terms.proofs.Bits.{as_byte}
 use Rattle.calls.specs.declared.TakeAnswer.{TakeAnswer}

@@ -2,7 +2,6 @@
 use borrow.Author.Tests.{eq-eqb, ne_eqb}
 use Rattle.recording.proofs.Scans.{scan_is, scan_is_bad, scan_is_cut}
 use Rattle.playback.specs.Playback.{turn_by}
-use borrow.Author.Rules.{rules}
 use Rattle.playback.proofs.next_scan.Goals as goal
 
 pub returns-in-Bad : goal.returns-in-Bad

@@ -1,12 +1,10 @@
 -- `playback::open_recording` meets its contract: the head, the program's acceptance, and its copy.
-use Prim.Native.Nat.{◌+◌, ◌-◌, ◌≤◌}
-use lib.ListN.{length, length-take}
+use Prim.Native.Nat.{◌+◌, ◌-◌}
+use lib.ListN.{length-take}
 use mathlib.Core.Path.{◌≡◌, sym, ◌∙◌}
 use native.Mathlib.Omega.{arith}
-use Rattle.recording.specs.Recording.{program_bytes}
 use Rattle.recording.proofs.Heads.{head_fits}
 use Rattle.playback.proofs.Openings.{opens_bad, opens_waits, opens_refused, opens_good}
-use borrow.Author.Rules.{rules}
 use Rattle.playback.proofs.open_recording.Goals as goal
 
 pub overflow_add-next : goal.overflow_add-next

@@ -1,6 +1,5 @@
 -- `stream::print_recording` meets its contract: what is kept leaves room in each buffer.
-use Rattle.std.proofs.Common.{◌≡◌, refl, sym, ap, ◌∙◌, ◌+◌, ◌≤◌, ◌<◌, length, arith}
-use lib.Seq.{length-take-le}
+use Rattle.std.proofs.Common.{refl, ap, ◌∙◌, arith}
 use Rattle.keeping.specs.declared.Keep.{Keep}
 use Rattle.intake.proofs.Goes.{went_small}
 use Rattle.stream.proofs.Rooms.{roomy_too}

@@ -1,5 +1,4 @@
 -- `telling::ended` meets its contract: a fresh state beside it.
-use borrow.Author.Rules.{rules}
 use Rattle.telling.proofs.ended.Goals as goal
 
 pub returns : goal.returns

@@ -1,13 +1,7 @@
-use Prim.Native.Nat.{◌+◌, ◌-◌, ◌≤◌}
-use mathlib.Core.Path.{◌≡◌, refl, ◌∙◌}
+use mathlib.Core.Path.{refl, ◌∙◌}
 use native.Mathlib.Omega.{arith}
-use lib.ListN.{length, drop}
 use Rattle.text.proofs.Texts.{put_length}
-use Rattle.lines.specs.Lines.{line_bytes}
-use Rattle.playback.specs.Playback.{played}
-use Rattle.telling.specs.Answers.{Roomy}
-use Rattle.telling.proofs.Turns.{Going, starts, goes_on, falls, waits_on, fails_so, refuses_so}
-use borrow.Author.Rules.{rules}
+use Rattle.telling.proofs.Turns.{starts, goes_on, falls, waits_on, fails_so, refuses_so}
 use Rattle.telling.proofs.play.Goals as goal
 
 pub loop-out-init : goal.loop-out-init

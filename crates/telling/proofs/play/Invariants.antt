@@ -1,14 +1,9 @@
 -- `telling::play` meets its contract. The loop's invariant: so much text is written, and what is left of the window comes to the rest.
-use Prim.Native.Nat.{◌+◌, ◌-◌, ◌≤◌}
-use mathlib.Core.Path.{◌≡◌, refl, ◌∙◌}
-use native.Mathlib.Omega.{arith}
+use Prim.Native.Nat.{◌-◌}
+use mathlib.Core.Path.{◌≡◌}
 use lib.ListN.{length, drop}
-use Rattle.text.proofs.Texts.{put_length}
-use Rattle.lines.specs.Lines.{line_bytes}
 use Rattle.playback.specs.Playback.{played}
-use Rattle.telling.specs.Answers.{Roomy}
-use Rattle.telling.proofs.Turns.{Going, starts, goes_on, falls, waits_on, fails_so, refuses_so}
-use borrow.Author.Rules.{rules}
+use Rattle.telling.proofs.Turns.{Going}
 use Rattle.telling.proofs.play.Given as goal
 
 abbrev pub invariant-loop-out : goal.invariant-loop-out

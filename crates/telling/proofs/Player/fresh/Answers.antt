@@ -1,5 +1,4 @@
 -- `telling::Player::fresh` meets its contract: a fresh state beside it.
-use borrow.Author.Rules.{rules}
 use Rattle.telling.proofs.Player.fresh.Goals as goal
 
 pub returns : goal.returns
