@@ -1,3 +1,5 @@
 mod Facts
+mod Same
 mod Rows
 mod Loose
+pub mod Learnt

@@ -1,6 +1,6 @@
 -- A contract that is not determined: of the kit's `io::buffer`, two buffers of that length that differ.
 use Prim.Native.Nat.{ℕ}
-use Rattle.std.proofs.Common.{◌≡◌, List, refl, sym, ap, ◌∙◌, length, get_or, arith}
+use Rattle.std.proofs.Common.{◌≡◌, List, sym, ap, ◌∙◌, get_or, arith}
 use lib.ListN.{replicate, length-replicate, get_or-replicate}
 use seplogic.Ra.Ura.{Ura}
 use seplogic.Bi.Basic.{impl, impl_elim}
@@ -11,10 +11,10 @@ use Rattle.determinacy.specs.Determinacy.{learnt, Determined}
 use Rattle.determinacy.proofs.Facts.{implied}
 use Rattle.io.specs.contracts.buffer as io_buffer
 
-abbrev filled : ℕ → List ℕ
+abbrev pub filled : ℕ → List ℕ
 filled = replicate 4096
 
-differ : filled 0 ≡ filled 1 → ⊥
+pub differ : filled 0 ≡ filled 1 → ⊥
 differ e =
     let first : (b : ℕ) → get_or (filled b) 0 0 ≡ b = λ b. get_or-replicate 4096 0 b 0 (omega arith) in
     let z : ◌≡◌ {A = ℕ} 0 1 = sym (first 0) ∙ ap (λ (l : List ℕ). get_or l 0 0) e ∙ first 1 in

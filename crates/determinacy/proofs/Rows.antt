@@ -1,22 +1,8 @@
 -- Each row of `Determinacy`: each contract says that the answer is one definition of the arguments.
-use Prim.Native.Nat.{ℕ, ◌+◌}
-use mathlib.Core.Path.{◌≡◌, refl, sym, ap, ◌∙◌}
+use Prim.Native.Nat.{ℕ}
+use mathlib.Core.Path.{refl, sym, ◌∙◌}
 use mathlib.Core.List.{List}
-use native.Mathlib.Omega.{arith}
-use lib.ListN.{length, get_or, replicate, length-replicate, get_or-replicate}
-use Rattle.grammar.proofs.Builds.{one_reading}
-use Rattle.grammar.proofs.Places.{one_place}
-use Rattle.parsing.specs.declared.Listed.{Listed}
-use Rattle.parsing.specs.Listing.{listed_tree, listed_bad, Lists, lists, lists_none}
 use Rattle.typed.proofs.Answering.{one_answer}
-use Rattle.lanwezik.specs.declared.Expression.{Expression}
-use Rattle.lanwezik.specs.Answers.{expression, Formulas, formulas}
-use Rattle.playback.specs.Playback.{Stage, Fed}
-use Rattle.reading.specs.declared.Input.{Input}
-use Rattle.reading.specs.declared.Input.TheVariants.{Bytes, End, Failed}
-use Rattle.keeping.specs.declared.Keep.{Keep}
-use Rattle.keeping.specs.Keeping.{Kept}
-use Rattle.intake.specs.Intake.{Ended, WentOn, fails, ends, reads}
 use seplogic.Ra.Ura.{Ura}
 use base.Logic.{ent, emp}
 use types.Logic.{Logic}
@@ -120,54 +106,7 @@ use Rattle.reading.specs.contracts.told_by as reading_told_by
 use Rattle.reading.specs.contracts.move_down as reading_move_down
 use Rattle.keeping.specs.contracts.feed_window as keeping_feed_window
 use Rattle.intake.specs.contracts.go_on as intake_go_on
-use Rattle.io.specs.contracts.buffer as io_buffer
-
-same_two : {A B : Type 0} {a b : A} {c d : B} → a ≡ b → c ≡ d → ◌≡◌ {A = A × B} (a, c) (b, d)
-same_two e f = rw (e, f)
-
--- a window that was fed, and what a read gave: the answer and the three buffers
-abbrev Same : {A B C D : Type 0} → A → A → B → B → C → C → D → D → Type 0
-Same {A} {B} {C} {D} r s a b c d e f = (r ≡ s) × ◌≡◌ {A = B × (C × D)} (a, (c, e)) (b, (d, f))
-
-kept_same : {g : Stage} {f : Fed} {w b p l : List ℕ} {d d' q q' m m' : List ℕ} {r r' : Keep} → Kept g f w b d p q l m r → Kept g f w b d' p q' l m' r' →
-    Same r r' d d' q q' m m'
-kept_same h k =
-    (h.answer ∙ sym k.answer, same_two (h.buffer ∙ sym k.buffer) (same_two (h.program ∙ sym k.program) (h.lines ∙ sym k.lines)))
-
-ended_same : {text b p l : List ℕ} {d d' q q' m m' : List ℕ} {r r' : Keep} → Ended text b d p q l m r → Ended text b d' p q' l m' r' → Same r r' d d' q q' m m'
-ended_same h k =
-    (h.answer ∙ sym k.answer, same_two (h.buffer ∙ sym k.buffer) (same_two (h.program ∙ sym k.program) (h.lines ∙ sym k.lines)))
-
--- the rows of what a read gave exclude one another
-abbrev row : Input → ℕ
-row Failed = 0
-row End = 1
-row (Bytes n) = 2 + n
-
-rows : {got x y : Input} → got ≡ x → got ≡ y → row x ≡ row y
-rows e f = ap row (sym e ∙ f)
-
-went_same : {got : Input} {g : Stage} {k : ℕ} {b p l : List ℕ} {d d' q q' m m' : List ℕ} {r r' : Keep} →
-    WentOn got g k b d p q l m r → WentOn got g k b d' p q' l m' r' → Same r r' d d' q q' m m'
-went_same (fails e h) (fails f k) = ended_same h k
-went_same (fails e h) (ends f k) = absurd (omega (arith, rows e f))
-went_same (fails e h) (reads n f k) = absurd (omega (arith, rows e f))
-went_same (ends e h) (fails f k) = absurd (omega (arith, rows e f))
-went_same (ends e h) (ends f k) = ended_same h k
-went_same (ends e h) (reads n f k) = absurd (omega (arith, rows e f))
-went_same (reads n e h) (fails f k) = absurd (omega (arith, rows e f))
-went_same (reads n e h) (ends f k) = absurd (omega (arith, rows e f))
-went_same (reads n e h) (reads o f k) = let same : o ≡ n = omega (arith, rows e f) in kept_same h (rw same at k)
-
--- the rows of a text exclude one another too
-listed_same : (s : List ℕ) {q r : Listed} → Lists s q → Lists s r → q ≡ r
-listed_same s (lists t x) (lists u y) = ap listed_tree (one_reading s t u x y)
-listed_same s (lists t x) (lists_none k y) = absurd (y.no_reading t x)
-listed_same s (lists_none k x) (lists u y) = absurd (x.no_reading u y)
-listed_same s (lists_none j x) (lists_none k y) = ap listed_bad (one_place s j k x y)
-
-formulas_same : (s : List ℕ) {q r : Expression} → Formulas s q → Formulas s r → q ≡ r
-formulas_same s (formulas a x) (formulas b y) = ap expression (one_answer s a b x y)
+use Rattle.determinacy.proofs.Same.{same_two, kept_same, went_same, listed_same, formulas_same}
 
 module _ {M : Type 1} {𝓤 : Ura M} (𝓛 : Logic 𝓤) where
   pub terms_signed_row : ent 𝓤 (emp 𝓤) (Determined 𝓛 terms_signed.ended (terms_signed.clauses 𝓛))

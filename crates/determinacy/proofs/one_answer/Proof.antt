@@ -1,9 +1,8 @@
 -- `determinacy::one_answer` meets its contract: it does nothing, and each row holds of the contracts as they stand.
-use Prim.Native.Nat.{ℕ}
-use Rattle.std.proofs.Common.{◌≡◌, List, [], ◌∷◌, refl, sym, ap, ◌∙◌, length, arith}
+use Rattle.std.proofs.Common.{[], ◌∷◌, refl}
 use Rattle.std.proofs.raw_atomic.Walks.{proved}
 use seplogic.Ra.Ura.{Ura}
-use base.Logic.{ent, emp, via, all_e}
+use base.Logic.{ent, emp}
 use base.Fml.{ftrue}
 use mir.Val.{vunit}
 use contract.Monad.{conj_i}
