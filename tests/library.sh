@@ -2,8 +2,8 @@
 #   prove_archive                           proves and builds the archive where it is not up to date
 #   choose_library standin|archive|native   sets compiler, library and runner; if it cannot be, says so and ends with 2
 #   build PROGRAM SOURCE...                 builds and leaves it at $out/PROGRAM, to be run by: $runner $out/PROGRAM
-# The archive is x86-64, and cc links it on such a machine. `native` is what bench/native has built. Set from outside if wanted: ARCHIVE; CC, the native compiler; CFLAGS; STANDIN_CONTROLLER and STANDIN_FORMULA, a
-# controller and a reader of formulas for the stand-in.
+# The archive is x86-64, and cc links it on such a machine. `native` is what bench/native has built. Set from outside if wanted: ARCHIVE; CC,
+# the native compiler; CFLAGS; STANDIN_CONTROLLER and STANDIN_FORMULA, a controller and a reader of formulas for the stand-in.
 archive=${ARCHIVE:-target/staticlib/liblanwezik.a}
 native=target/native/liblanwezik.a
 flags="-std=c99 -Wall -Wextra -Wpedantic -Werror ${CFLAGS:--O3} -Iinclude -Ioracle"
