@@ -1,5 +1,5 @@
 -- Document 01, "Numbers of refusal": "The program is read front to back; the first fault in reading order is reported".
-use Rattle.std.specs.Prelude.{ℕ, ◌≡◌, Result}
+use Rattle.std.specs.Prelude.{ℕ, ◌≡◌, Result, Ok, Err}
 use Rattle.terms.specs.declared.refusal.Fault.{Fault}
 use Rattle.terms.specs.Refusals.{number_of}
 
