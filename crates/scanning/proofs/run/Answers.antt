@@ -16,7 +16,7 @@ run_counted-requires c =
 pub returns-in-Fault : goal.returns-in-Fault
 returns-in-Fault c =
     let n = no_count _ _ _ (typed_fault _ _ _ _ _ (sym c.read_number-c.ensures ∙ c.in-Fault.is)) in
-    record { value = c.refused.ensures ∙ n.answer; after = n.columns }
+    record { value = n.answer; after = n.columns }
 
 pub returns-in-Got : goal.returns-in-Got
 returns-in-Got c =

@@ -12,7 +12,7 @@ references-requires c =
 
 pub returns-in-Fault : goal.returns-in-Fault
 returns-in-Fault c =
-    c.unread.ensures ∙ uncounted _ _ _ _ (typed_fault _ _ _ _ _ (sym c.read_number-c.ensures ∙ c.in-Fault.is))
+    uncounted _ _ _ _ (typed_fault _ _ _ _ _ (sym c.read_number-c.ensures ∙ c.in-Fault.is))
 
 pub returns-in-Got : goal.returns-in-Got
 returns-in-Got c =
