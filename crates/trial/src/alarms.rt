@@ -6,8 +6,6 @@ ghost use Rattle.program.specs.Program.{references_at, alarms_at};
 ghost use Rattle.expression.specs.Expression.{bit_in};
 ghost use Rattle.trial.specs.Trial.{no_alarms, alarmed_of, to_end};
 
-use numbers::Number;
-
 // The alarm word, if the alarms can be read.
 #[derive(Drop)]
 pub struct Alarmed {
@@ -46,10 +44,10 @@ fn references(s: &[u8], start: usize, n: u32, bits: &[bool; 234], marks: &[u8; 2
     while 0 < left {
         let r = numbers::read_number(s, at, numbers::PIN, 0, marks);
         match r {
-            Number::Fault(_, _) => {
+            Err(_) => {
                 return unread();
             }
-            Number::Got(v, next) => {
+            Ok((v, next)) => {
                 word += weigh(bits, v, weight);
                 weight *= 2;
                 at = next;
@@ -72,7 +70,7 @@ pub fn alarms(s: &[u8], at: usize, bits: &[bool; 234], marks: &[u8; 200]) -> Ala
 {
     let c = numbers::read_number(s, at, numbers::ALARM_COUNT, 0, marks);
     match c {
-        Number::Fault(_, _) => unread(),
-        Number::Got(n, next) => references(s, next, n, bits, marks),
+        Err(_) => unread(),
+        Ok((n, next)) => references(s, next, n, bits, marks),
     }
 }

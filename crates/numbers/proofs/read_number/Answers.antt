@@ -13,7 +13,7 @@ pub returns-then-is_marked : goal.returns-then-is_marked
 unfolding typed_at
 returns-then-is_marked c =
     rw (
-      num_is _ (sym c.number-n.ensures ∙ c.in-Ok.is),
+      num_is _ (sym c.number.ensures ∙ c.in-Ok.is),
       sym c.allow.ensures ∙ c.if-allow.true,
       sym c.is_marked.ensures ∙ c.if-is_marked.true,
     )
@@ -22,7 +22,7 @@ pub returns-then-allow : goal.returns-then-allow
 unfolding typed_at
 returns-then-allow c =
     rw (
-      num_is _ (sym c.number-n.ensures ∙ c.in-Ok.is),
+      num_is _ (sym c.number.ensures ∙ c.in-Ok.is),
       sym c.allow.ensures ∙ c.if-allow.true,
       sym c.is_marked.ensures ∙ c.if-is_marked.false,
     )
@@ -30,14 +30,14 @@ returns-then-allow c =
 pub returns-in-Err-BadlyFormed : goal.returns-in-Err-BadlyFormed
 unfolding typed_at
 returns-in-Err-BadlyFormed c =
-    rw (num_unread _ (sym c.number-n.ensures ∙ c.in-Err-BadlyFormed.is) (rw c.in-Err-BadlyFormed.is at c.in-Err-BadlyFormed.field-0-is))
+    rw (num_unread _ (sym c.number.ensures ∙ c.in-Err-BadlyFormed.is) (rw c.in-Err-BadlyFormed.is at c.in-Err-BadlyFormed.field-0-is))
 
 pub returns-in-Err-Cut : goal.returns-in-Err-Cut
 unfolding typed_at
 returns-in-Err-Cut c =
-    rw (num_unread _ (sym c.number-n.ensures ∙ c.in-Err-Cut.is) (rw c.in-Err-Cut.is at c.in-Err-Cut.field-0-is))
+    rw (num_unread _ (sym c.number.ensures ∙ c.in-Err-Cut.is) (rw c.in-Err-Cut.is at c.in-Err-Cut.field-0-is))
 
 pub returns-else-allow : goal.returns-else-allow
 unfolding typed_at
 returns-else-allow c =
-    rw (num_is _ (sym c.number-n.ensures ∙ c.in-Ok.is), sym c.allow.ensures ∙ c.if-allow.false)
+    rw (num_is _ (sym c.number.ensures ∙ c.in-Ok.is), sym c.allow.ensures ∙ c.if-allow.false)

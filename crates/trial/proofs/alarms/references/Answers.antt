@@ -2,7 +2,6 @@ use Rattle.trial.proofs.AlarmWord.{light, walk_begin, walk_on, walk_fault, walk_
 use Rattle.numbers.specs.Types.{bit_ref}
 use Rattle.expression.specs.Expression.{bit_in}
 use Rattle.numbers.proofs.Typed.{typed_below}
-use Rattle.numbers.proofs.Answers.{typed_got, typed_fault}
 use native.Mathlib.Omega.{arith}
 use mathlib.Core.Path.{◌∙◌, sym}
 use Rattle.trial.proofs.alarms.references.Goals as goal
@@ -11,18 +10,18 @@ pub loop-left-init : goal.loop-left-init
 loop-left-init c =
     walk_begin _ _ _ _ _
 
-pub returns-in-Fault : goal.returns-in-Fault
-returns-in-Fault c =
+pub returns-in-Err : goal.returns-in-Err
+returns-in-Err c =
     c.unread.ensures ∙ walk_fault _ _ _ _ _ c.loop-left.invariant c.loop-left-test.true
-    (typed_fault _ _ _ _ _ (sym c.read_number-r.ensures ∙ c.in-Fault.is))
+    (sym c.in-Err.ensures)
 
 pub weigh-word-requires : goal.weigh-word-requires
 weigh-word-requires c =
-    typed_below _ _ _ _ _ (typed_got _ _ _ _ _ (sym c.read_number-r.ensures ∙ c.in-Got.is))
+    typed_below _ _ _ _ _ (sym c.in-Ok.ensures)
 
 pub overflow_add-word : goal.overflow_add-word
 overflow_add-word c =
-    let l = c.loop-left in let h = light (bit_in c.args.bits.now (bit_ref c.in-Got.v)) l.word l.weight l.invariant.low in
+    let l = c.loop-left in let h = light (bit_in c.args.bits.now (bit_ref c.in-Ok.v)) l.word l.weight l.invariant.low in
     omega (arith, h, c.weigh-word.ensures, walk_fits _ _ _ _ _ c.loop-left.invariant c.requires)
 
 pub overflow_mul-weight : goal.overflow_mul-weight
@@ -33,7 +32,7 @@ pub loop-left-preserved : goal.loop-left-preserved
 loop-left-preserved c =
     rw c.weigh-word.ensures
     (walk_on _ _ _ _ _ c.loop-left.invariant c.loop-left-test.true
-    (typed_got _ _ _ _ _ (sym c.read_number-r.ensures ∙ c.in-Got.is)))
+    (sym c.in-Ok.ensures))
 
 pub returns-then-at-s : goal.returns-then-at-s
 returns-then-at-s c =
