@@ -72,7 +72,7 @@ fn read_expression(s: &[u8], at: usize, marks: &[u8; 200]) -> Row
 {
     let e = nodes::pass(s, at, nodes::MOST_DEEP, nodes::MOST_NODES, marks);
     match e {
-        Err(f) => bare(End::Fault(f.refusal.number(), f.at)),
+        Err(fault) => bare(End::Fault(fault.refusal.number(), fault.at)),
         Ok((left, next)) => Row {
             fields: [0u32; 5],
             nodes: (nodes::MOST_NODES - left) as u32,

@@ -20,6 +20,7 @@ pub enum Node {
 }
 
 // The node at a place, where `depth` levels and `left` nodes are left, and the place after it.
+#[tactic(auto, unfolding(crate::specs::Reading::head_at))]
 pub fn head(s: &[u8], at: usize, depth: u8, left: u8, marks: &[u8; 200]) -> Result<(Node, usize), Fault>
     ensures { node_of_answer result ≡ head_at marks.now depth left s.now at }
 {
@@ -60,8 +61,8 @@ pub fn pass(s: &[u8], at: usize, depth: u8, left: u8, marks: &[u8; 200]) -> Resu
                     from = after;
                     nodes -= 2;
                 } else {
-                    let (rest, after) = pass(s, next, levels, nodes - 1, marks)?;
-                    from = after;
+                    let (rest, end) = pass(s, next, levels, nodes - 1, marks)?;
+                    from = end;
                     nodes = rest;
                 }
             }

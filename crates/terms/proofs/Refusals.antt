@@ -1,5 +1,7 @@
 -- Each number of refusal stands for one refusal, and so a rendering that tells a fault by its number tells which fault it is. Assumes nothing.
 use Rattle.std.proofs.Common.{◌≡◌, ℕ, List, [], ◌∷◌, get_or, refl, sym, ap, ◌∙◌}
+use Rattle.std.specs.Prelude.{Result, Ok, Err}
+use Rattle.std.specs.Result.{IsErrAnd}
 use Rattle.terms.specs.Refusals.{number_of}
 use Rattle.terms.specs.declared.refusal.Fault.{Fault}
 use Rattle.terms.specs.declared.refusal.Refusal.{Refusal}
@@ -33,3 +35,8 @@ fault_back f = rw (refusal_back f.refusal)
 -- what can be undone gives one answer
 pub undone : {A B : Type 0} (f : A → B) (g : B → A) → ((a : A) → g (f a) ≡ a) → (a b : A) → f a ≡ f b → a ≡ b
 undone f g back a b e = sym (back a) ∙ ap g e ∙ back b
+
+-- what a `?` hands on
+pub handed_on : {T E : Type 0} (r : Result T E) {f : E} → IsErrAnd r (λ e. e ≡ f) → r ≡ Err f
+handed_on (Ok x) h = absurd h
+handed_on (Err e) h = ap Err h

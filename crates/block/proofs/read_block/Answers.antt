@@ -38,12 +38,12 @@ mark_of-requires c =
 pub returns-in-Err : goal.returns-in-Err
 unfolding block_at
 returns-in-Err c =
-    rw (sym c.in-Err.ensures)
+    rw (c.number.ensures, sym c.in-Err.ensures)
 
-pub returns-in-Fault-end : goal.returns-in-Fault-end
-returns-in-Fault-end c =
+pub returns-in-Fault : goal.returns-in-Fault
+returns-in-Fault c =
     block_stopped _ _ _ (sym c.in-Ok.ensures)
-    (row_stopped _ _ _ _ _ _ c.read_row-row.ensures c.in-Fault-end.is)
+    (row_stopped _ _ _ _ _ _ c.read_row-row.ensures c.in-Fault.is)
 
 pub returns-in-Next : goal.returns-in-Next
 returns-in-Next c =

@@ -10,12 +10,12 @@ returns-then-at-s c =
 
 pub returns-in-Err : goal.returns-in-Err
 returns-in-Err c =
-    alarms_bad _ _ _ (sym c.in-Err.ensures)
+    rw c.number.ensures (alarms_bad _ _ _ (sym c.in-Err.ensures))
 
-pub returns-in-Fault-r : goal.returns-in-Fault-r
-returns-in-Fault-r c =
-    c.in-Fault-r.is ∙ alarms_stop _ _ _ (sym c.in-Ok.ensures)
-    (sym c.read_references-r.ensures ∙ c.in-Fault-r.is)
+pub returns-in-Fault : goal.returns-in-Fault
+returns-in-Fault c =
+    c.in-Fault.is ∙ alarms_stop _ _ _ (sym c.in-Ok.ensures)
+    (sym c.read_references-r.ensures ∙ c.in-Fault.is)
 
 pub returns-else-at-s : goal.returns-else-at-s
 returns-else-at-s c =

@@ -11,12 +11,12 @@ read_blocks-r-requires c =
 
 pub returns-in-Err : goal.returns-in-Err
 returns-in-Err c =
-    c.blank.ensures ∙ program_bad _ _ (sym c.in-Err.ensures)
+    rw c.number.ensures at c.blank.ensures ∙ program_bad _ _ (sym c.in-Err.ensures)
 
-pub returns-in-Fault-e : goal.returns-in-Fault-e
-returns-in-Fault-e c =
+pub returns-in-Fault : goal.returns-in-Fault
+returns-in-Fault c =
     program_stop _ _ (sym c.in-Ok.ensures) _
-    c.read_blocks-r.ensures c.in-Fault-e.is
+    c.read_blocks-r.ensures c.in-Fault.is
 
 pub returns-in-Fault-a : goal.returns-in-Fault-a
 returns-in-Fault-a c =

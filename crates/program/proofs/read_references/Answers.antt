@@ -9,9 +9,9 @@ loop-left-init c =
 
 pub returns-in-Err : goal.returns-in-Err
 returns-in-Err c =
-    sym
+    rw c.number.ensures (sym
     (c.loop-left.invariant ∙ references_stop _ _ _ c.loop-left-test.true
-    (sym c.in-Err.ensures))
+    (sym c.in-Err.ensures)))
 
 pub loop-left-preserved : goal.loop-left-preserved
 loop-left-preserved c =

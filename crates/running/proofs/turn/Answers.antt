@@ -22,7 +22,7 @@ turn_row-requires c =
 pub returns-in-Err : goal.returns-in-Err
 returns-in-Err c =
     let h = sym c.in-Err.ensures in
-    record { value = c.none.ensures ∙ turn_none _ _ _ _ _ _ _ h; asks = asked_none _ _ _ _ h }
+    record { value = rw c.number.ensures at c.none.ensures ∙ turn_none _ _ _ _ _ _ _ h; asks = asked_none _ _ _ _ h }
 
 pub returns-else-v-eq0 : goal.returns-else-v-eq0
 returns-else-v-eq0 c =

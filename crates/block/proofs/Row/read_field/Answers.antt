@@ -10,7 +10,7 @@ returns-in-Fault c =
 
 pub returns-in-Err : goal.returns-in-Err
 returns-in-Err c =
-    c.bare.ensures ∙ more_fault _ _ _ _ _ c.in-Next.is
+    rw c.number.ensures at c.bare.ensures ∙ more_fault _ _ _ _ _ c.in-Next.is
     (elim c.if-i-eq0.branch [ then-i-eq0 w ↦ w.before-is ∙ rw w.if-i-eq0.true refl | else-i-eq0 w ↦ w.before-is ∙ before_place _ _ w.if-i-eq0.false ])
     (sym c.in-Err.ensures)
 
