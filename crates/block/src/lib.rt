@@ -7,9 +7,7 @@ ghost use Rattle.kinds.specs.Kinds.{types_of};
 ghost use Rattle.block.specs.Reading.{fields_at, block_at};
 ghost use Rattle.block.specs.Answers.{bare_row, field_more, row_of, brief_of};
 
-use numbers::{
-    DIVISOR, EITHER_WAY, OFF_TIME, PIN, PLUS_MINUS, RELATION, TIME, UNIT, WORD_PIN,
-};
+use numbers::{DIVISOR, EITHER_WAY, OFF_TIME, PIN, PLUS_MINUS, RELATION, TIME, UNIT, WORD_PIN};
 
 // The place after what was read, or a refusal and its place.
 #[derive(Clone, Copy)]

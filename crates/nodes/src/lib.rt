@@ -21,7 +21,13 @@ pub enum Node {
 
 // The node at a place, where `depth` levels and `left` nodes are left, and the place after it.
 #[tactic(auto, unfolding(crate::specs::Reading::head_at))]
-pub fn head(s: &[u8], at: usize, depth: u8, left: u8, marks: &[u8; 200]) -> Result<(Node, usize), Fault>
+pub fn head(
+    s: &[u8],
+    at: usize,
+    depth: u8,
+    left: u8,
+    marks: &[u8; 200],
+) -> Result<(Node, usize), Fault>
     ensures { node_of_answer result ≡ head_at marks.now depth left s.now at }
 {
     let (v, next) = numbers::read_number(s, at, numbers::NODE_NUMBER, 0, marks)?;
@@ -40,7 +46,13 @@ pub fn head(s: &[u8], at: usize, depth: u8, left: u8, marks: &[u8; 200]) -> Resu
 
 // Passes over the expression at a place, from node to node, and over the first of two parts by itself where it is no leaf.
 // What is left of `left` nodes, and the place after the expression.
-pub fn pass(s: &[u8], at: usize, depth: u8, left: u8, marks: &[u8; 200]) -> Result<(u8, usize), Fault>
+pub fn pass(
+    s: &[u8],
+    at: usize,
+    depth: u8,
+    left: u8,
+    marks: &[u8; 200],
+) -> Result<(u8, usize), Fault>
     ensures { passed_of_answer result ≡ passed left (expr_at marks.now depth left s.now at) }
 {
     let mut from = at;

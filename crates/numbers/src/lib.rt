@@ -129,7 +129,13 @@ fn is_marked(ty: u8, v: u32, marks: &[u8; 200]) -> bool
 }
 
 // The number of type ty at a place, after the setting `before`, and the place after it.
-pub fn read_number(s: &[u8], at: usize, ty: u8, before: u32, marks: &[u8; 200]) -> Result<(u32, usize), Fault>
+pub fn read_number(
+    s: &[u8],
+    at: usize,
+    ty: u8,
+    before: u32,
+    marks: &[u8; 200],
+) -> Result<(u32, usize), Fault>
     requires { ty < number_types }
     ensures { read_of result ≡ typed_at marks.now ty before s.now at }
 {

@@ -1,5 +1,5 @@
 -- `known::read_known` meets its contract: there is no fault.
-use mathlib.Core.Path.{sym, ◌∙◌}
+use mathlib.Core.Path.{sym}
 use Rattle.known.proofs.Places.{no_fault}
 use Rattle.known.proofs.read_known.Goals as goal
 

@@ -45,7 +45,7 @@ pub loop-node-preserved-in-Leaf-head-2 : goal.loop-node-preserved-in-Leaf-head-2
 loop-node-preserved-in-Leaf-head-2 t c = (
   omega (arith, c.loop-node.invariant.0),
   c.loop-node.invariant.1 ∙ on_two_leaf _ _ _ _ _ (rw c.in-Two.is at (sym c.in_ok-node.ensures))
-  (rw c.in-Ok-Leaf-default.field-0-0-is at (sym c.in-Ok-Leaf-default.ensures)),
+      (rw c.in-Ok-Leaf-default.field-0-0-is at (sym c.in-Ok-Leaf-default.ensures)),
 )
 
 pub overflow_sub-nodes-in_default : goal.overflow_sub-nodes-in_default
