@@ -105,6 +105,9 @@ use Rattle.reading.proofs.move_down.Reads as reading_move_down
 use Rattle.keeping.proofs.feed_window.Reads as keeping_feed_window
 use Rattle.intake.proofs.go_on.Reads as intake_go_on
 use Rattle.io.proofs.buffer.Reads as io_buffer
+use Rattle.wire.proofs.Answered.{one_read}
+use Rattle.nodes.proofs.Answered.{one_node, one_pass}
+use Rattle.expression.proofs.Answered.{one_value}
 use Rattle.determinacy.proofs.Same.{same_two, kept_same, went_same, listed_same, formulas_same}
 
 -- any two answers that meet a contract on the same arguments are equal
@@ -268,9 +271,9 @@ all =
       loading_load_words = λ κ a x y u v h k. (refl, h ∙ sym k);
       copies_store_words = λ κ a x y u v h k. (refl, h ∙ sym k);
       copies_store_outputs = λ κ a x y u v h k. (refl, h ∙ sym k);
-      numbers_read_number = λ κ a x y u v h k. cc;
-      nodes_head = λ κ a x y u v h k. cc;
-      nodes_pass = λ κ a x y u v h k. cc;
+      numbers_read_number = λ κ a x y u v h k. one_read _ _ (h ∙ sym k);
+      nodes_head = λ κ a x y u v h k. one_node _ _ (h ∙ sym k);
+      nodes_pass = λ κ a x y u v h k. one_pass _ _ (h ∙ sym k);
       spelling_byte_at = λ κ a x y u v h k. cc;
       spelling_skip_spaces = λ κ a x y u v h k. cc;
       spelling_read_name = λ κ a x y u v h k. cc;
@@ -285,7 +288,7 @@ all =
       block_read_row = λ κ a x y u v h k. cc;
       block_read_block = λ κ a x y u v h k. cc;
       program_accept = λ κ a x y u v h k. cc;
-      expression_eval = λ κ a x y u v h k. cc;
+      expression_eval = λ κ a x y u v h k. one_value _ _ (h ∙ sym k);
       rules_apply = λ κ a x y u v h k. cc;
       running_turn = λ κ a x y u v h k. (h.0 ∙ sym k.0, h.1 ∙ sym k.1);
       turns_turns = λ κ a x y u v h k. (h.0 ∙ sym k.0, h.1 ∙ sym k.1);

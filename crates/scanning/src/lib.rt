@@ -8,7 +8,6 @@ ghost use Rattle.scanning.specs.Scan.{inputs};
 ghost use Rattle.scanning.specs.Loading.{tried_on, after_trial};
 ghost use Rattle.scanning.specs.Run.{run_of, after_run};
 
-use numbers::Number;
 use trial::Trial;
 
 // Tries a program whose n blocks stand from `start` on, on a copy of its places, and stores them if it is accepted; none if it is not.
@@ -64,8 +63,8 @@ pub fn run(
     let every = [2u8; 200];
     let c = numbers::read_number(program, 0, numbers::BLOCK_COUNT, 0, &every);
     match c {
-        Number::Fault(_, _) => None,
-        Number::Got(n, next) => run_counted(
+        Err(_) => None,
+        Ok((n, next)) => run_counted(
             program, next, n, elapsed, bits, analogs, ticks, words, pins, outputs,
         ),
     }

@@ -6,7 +6,6 @@ ghost use Rattle.program.specs.Program.{references_at, alarms_at};
 ghost use Rattle.expression.specs.Expression.{bit_in};
 ghost use Rattle.trial.specs.Trial.{alarmed_of, to_end};
 
-use numbers::Number;
 
 // The weight of an alarm's bit if the reference reads as on, else nothing.
 fn weigh(bits: &[bool; 234], r: u32, weight: u64) -> u64
@@ -28,10 +27,10 @@ fn references(s: &[u8], start: usize, n: u32, bits: &[bool; 234], marks: &[u8; 2
     for _ in 0..n {
         let r = numbers::read_number(s, at, numbers::PIN, 0, marks);
         match r {
-            Number::Fault(_, _) => {
+            Err(_) => {
                 return None;
             }
-            Number::Got(v, next) => {
+            Ok((v, next)) => {
                 word += weigh(bits, v, weight);
                 weight *= 2;
                 at = next;
@@ -50,7 +49,7 @@ pub fn alarms(s: &[u8], at: usize, bits: &[bool; 234], marks: &[u8; 200]) -> Opt
 {
     let c = numbers::read_number(s, at, numbers::ALARM_COUNT, 0, marks);
     match c {
-        Number::Fault(_, _) => None,
-        Number::Got(n, next) => references(s, next, n, bits, marks),
+        Err(_) => None,
+        Ok((n, next)) => references(s, next, n, bits, marks),
     }
 }

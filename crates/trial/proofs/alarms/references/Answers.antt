@@ -2,28 +2,27 @@ use Rattle.trial.proofs.AlarmWord.{walk_begin, walk_on, walk_fault, walk_over, w
 use Rattle.numbers.specs.Types.{bit_ref}
 use Rattle.expression.specs.Expression.{bit_in}
 use Rattle.numbers.proofs.Typed.{typed_below}
-use Rattle.numbers.proofs.Answers.{typed_got, typed_fault}
 use native.Mathlib.Omega.{arith}
 use Prim.Native.Nat.{◌+◌, ◌-◌}
-use mathlib.Core.Path.{◌≡◌, ◌∙◌, sym}
+use mathlib.Core.Path.{◌≡◌, sym}
 use Rattle.trial.proofs.alarms.references.Goals as goal
 
 pub loop-init : goal.loop-init
 loop-init c =
     let e : c.args.n - 0 ≡ c.args.n = omega arith in rw e (walk_begin _ _ _ _ _)
 
-pub returns-in-Fault : goal.returns-in-Fault
-returns-in-Fault c =
+pub returns-in-Err : goal.returns-in-Err
+returns-in-Err c =
     walk_fault _ _ _ _ _ c.loop.invariant (omega arith)
-    (typed_fault _ _ _ _ _ (sym c.read_number-r.ensures ∙ c.in-Fault.is))
+    (sym c.in-Err.ensures)
 
 pub weigh-word-requires : goal.weigh-word-requires
 weigh-word-requires c =
-    typed_below _ _ _ _ _ (typed_got _ _ _ _ _ (sym c.read_number-r.ensures ∙ c.in-Got.is))
+    typed_below _ _ _ _ _ (sym c.in-Ok.ensures)
 
 pub overflow_add-word : goal.overflow_add-word
 overflow_add-word c =
-    let l = c.loop in let h = light (bit_in c.args.bits.now (bit_ref c.in-Got.v)) l.word l.weight l.invariant.low in
+    let l = c.loop in let h = light (bit_in c.args.bits.now (bit_ref c.in-Ok.v)) l.word l.weight l.invariant.low in
     omega (arith, h, c.weigh-word.ensures, walk_fits _ _ _ _ _ l.invariant c.requires)
 
 pub overflow_mul-weight : goal.overflow_mul-weight
@@ -36,7 +35,7 @@ loop-preserved c =
     let e : c.args.n - (l.counter + 1) ≡ c.args.n - l.counter - 1 = omega arith in
     rw (c.weigh-word.ensures, e)
     (walk_on _ _ _ _ _ l.invariant (omega arith)
-    (typed_got _ _ _ _ _ (sym c.read_number-r.ensures ∙ c.in-Got.is)))
+    (sym c.in-Ok.ensures))
 
 pub returns-then-at-s : goal.returns-then-at-s
 returns-then-at-s c =
