@@ -108,6 +108,8 @@ use Rattle.io.proofs.buffer.Reads as io_buffer
 use Rattle.wire.proofs.Answered.{one_read}
 use Rattle.nodes.proofs.Answered.{one_node, one_pass}
 use Rattle.expression.proofs.Answered.{one_value}
+use Rattle.block.proofs.Answered.{one_row, one_brief}
+use Rattle.running.proofs.Answered.{one_turn}
 use Rattle.determinacy.proofs.Same.{same_two, kept_same, went_same, listed_same, formulas_same}
 
 -- any two answers that meet a contract on the same arguments are equal
@@ -285,12 +287,12 @@ all =
       kinds_memory_of = λ κ a x y u v h k. cc;
       kinds_figure_of = λ κ a x y u v h k. cc;
       kinds_mark_of = λ κ a x y u v h k. cc;
-      block_read_row = λ κ a x y u v h k. cc;
-      block_read_block = λ κ a x y u v h k. cc;
+      block_read_row = λ κ a x y u v h k. one_row _ _ (h ∙ sym k);
+      block_read_block = λ κ a x y u v h k. one_brief _ _ (h ∙ sym k);
       program_accept = λ κ a x y u v h k. cc;
       expression_eval = λ κ a x y u v h k. one_value _ _ (h ∙ sym k);
       rules_apply = λ κ a x y u v h k. cc;
-      running_turn = λ κ a x y u v h k. (h.0 ∙ sym k.0, h.1 ∙ sym k.1);
+      running_turn = λ κ a x y u v h k. (one_turn _ _ (h.0 ∙ sym k.0), h.1 ∙ sym k.1);
       turns_turns = λ κ a x y u v h k. (h.0 ∙ sym k.0, h.1 ∙ sym k.1);
       trial_try_program = λ κ a x y u v h k. (h.0 ∙ sym k.0, h.1 ∙ sym k.1);
       scanning_run = λ κ a x y u v h k. (h.0 ∙ sym k.0, h.1 ∙ sym k.1);

@@ -108,6 +108,8 @@ use Rattle.intake.specs.contracts.go_on as intake_go_on
 use Rattle.wire.proofs.Answered.{one_read}
 use Rattle.nodes.proofs.Answered.{one_node, one_pass}
 use Rattle.expression.proofs.Answered.{one_value}
+use Rattle.block.proofs.Answered.{one_row, one_brief}
+use Rattle.running.proofs.Answered.{one_turn}
 use Rattle.determinacy.proofs.Same.{same_two, kept_same, went_same, listed_same, formulas_same}
 
 module _ {M : Type 1} {𝓤 : Ura M} (𝓛 : Logic 𝓤) where
@@ -280,10 +282,10 @@ module _ {M : Type 1} {𝓤 : Ura M} (𝓛 : Logic 𝓤) where
   kinds_mark_of_row = determined 𝓛 kinds_mark_of.ended (kinds_mark_of.clauses 𝓛) (λ κs a g x y u v. two 𝓤 _ _ _ (λ h k. cc))
 
   pub block_read_row_row : ent 𝓤 (emp 𝓤) (Determined 𝓛 block_read_row.ended (block_read_row.clauses 𝓛))
-  block_read_row_row = determined 𝓛 block_read_row.ended (block_read_row.clauses 𝓛) (λ κs a g x y u v. two 𝓤 _ _ _ (λ h k. cc))
+  block_read_row_row = determined 𝓛 block_read_row.ended (block_read_row.clauses 𝓛) (λ κs a g x y u v. two 𝓤 _ _ _ (λ h k. one_row _ _ (h ∙ sym k)))
 
   pub block_read_block_row : ent 𝓤 (emp 𝓤) (Determined 𝓛 block_read_block.ended (block_read_block.clauses 𝓛))
-  block_read_block_row = determined 𝓛 block_read_block.ended (block_read_block.clauses 𝓛) (λ κs a g x y u v. two 𝓤 _ _ _ (λ h k. cc))
+  block_read_block_row = determined 𝓛 block_read_block.ended (block_read_block.clauses 𝓛) (λ κs a g x y u v. two 𝓤 _ _ _ (λ h k. one_brief _ _ (h ∙ sym k)))
 
   pub program_accept_row : ent 𝓤 (emp 𝓤) (Determined 𝓛 program_accept.ended (program_accept.clauses 𝓛))
   program_accept_row = determined 𝓛 program_accept.ended (program_accept.clauses 𝓛) (λ κs a g x y u v. two 𝓤 _ _ _ (λ h k. cc))
@@ -295,7 +297,7 @@ module _ {M : Type 1} {𝓤 : Ura M} (𝓛 : Logic 𝓤) where
   rules_apply_row = determined 𝓛 rules_apply.ended (rules_apply.clauses 𝓛) (λ κs a g x y u v. two 𝓤 _ _ _ (λ h k. cc))
 
   pub running_turn_row : ent 𝓤 (emp 𝓤) (DeterminedWith 𝓛 running_turn.ended (running_turn.clauses 𝓛) (λ κ u. u.1.1.1.1.1.1.1.0.now))
-  running_turn_row = determined_with 𝓛 running_turn.ended (running_turn.clauses 𝓛) (λ κ u. u.1.1.1.1.1.1.1.0.now) (λ κs a g x y u v. four 𝓤 _ _ _ _ _ (λ h h' k k'. (h ∙ sym k, h' ∙ sym k')))
+  running_turn_row = determined_with 𝓛 running_turn.ended (running_turn.clauses 𝓛) (λ κ u. u.1.1.1.1.1.1.1.0.now) (λ κs a g x y u v. four 𝓤 _ _ _ _ _ (λ h h' k k'. (one_turn _ _ (h ∙ sym k), h' ∙ sym k')))
 
   pub turns_turns_row : ent 𝓤 (emp 𝓤) (DeterminedWith 𝓛 turns_turns.ended (turns_turns.clauses 𝓛) (λ κ u. arrays_from u.1.1.1.1.1))
   turns_turns_row = determined_with 𝓛 turns_turns.ended (turns_turns.clauses 𝓛) (λ κ u. arrays_from u.1.1.1.1.1) (λ κs a g x y u v. four 𝓤 _ _ _ _ _ (λ h h' k k'. (h ∙ sym k, h' ∙ sym k')))
