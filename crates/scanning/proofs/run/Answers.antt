@@ -15,7 +15,7 @@ run_counted-requires c =
 pub returns-in-Err : goal.returns-in-Err
 returns-in-Err c =
     let n = no_count _ _ _ (sym c.in-Err.ensures) in
-    record { value = c.refused.ensures ∙ n.answer; after = n.columns }
+    record { value = n.answer; after = n.columns }
 
 pub returns-in-Ok : goal.returns-in-Ok
 returns-in-Ok c =

@@ -11,7 +11,7 @@ references-requires c =
 
 pub returns-in-Err : goal.returns-in-Err
 returns-in-Err c =
-    c.unread.ensures ∙ uncounted _ _ _ _ (sym c.in-Err.ensures)
+    uncounted _ _ _ _ (sym c.in-Err.ensures)
 
 pub returns-in-Ok : goal.returns-in-Ok
 returns-in-Ok c =
