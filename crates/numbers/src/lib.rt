@@ -80,6 +80,7 @@ fn allow(ty: u8, before: u32, v: u32) -> bool
 }
 
 // Whether what a bit reference refers to is marked.
+#[tactic(auto, unfolding(crate::specs::Types::bit_ref))]
 fn is_bit_marked(r: u32, marks: &[u8; 200]) -> bool
     requires { r < 234 }
     ensures { result ≡ bit_marked marks.now (bit_ref r) }
@@ -88,6 +89,7 @@ fn is_bit_marked(r: u32, marks: &[u8; 200]) -> bool
 }
 
 // Whether what a number of type ty refers to is marked.
+#[tactic(auto, unfolding(crate::specs::Reading::marked, crate::specs::Types::said_by, crate::specs::Types::content_of, crate::specs::Types::word_ref))]
 fn is_marked(ty: u8, v: u32, marks: &[u8; 200]) -> bool
     requires { v < get_or limits ty 0 }
     ensures { result ≡ marked marks.now ty v }
@@ -101,6 +103,7 @@ fn is_marked(ty: u8, v: u32, marks: &[u8; 200]) -> bool
 }
 
 // The number of type ty at a place, after the setting `before`, and the place after it.
+#[tactic(auto, using(crate::proofs::References::allowed_below), unfolding(crate::specs::Reading::typed_at))]
 pub fn read_number(
     s: &[u8],
     at: usize,
