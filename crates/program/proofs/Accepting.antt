@@ -1,6 +1,6 @@
 -- A whole program by its parts, and acceptance by its two readings. Assumes nothing.
 use Prim.Native.Nat.{ℕ, ◌+◌, ◌<◌, ◌≤◌}
-use mathlib.Core.Path.{◌≡◌, refl, sym, ap, ◌∙◌}
+use mathlib.Core.Path.{◌≡◌, sym, ap, ◌∙◌}
 use mathlib.Core.List.{List, map}
 use native.Mathlib.Omega.{arith}
 use native.Mathlib.Nat.{zero-add}
@@ -15,7 +15,7 @@ use Rattle.wire.specs.Reading.{Read, got, fault}
 use Rattle.numbers.specs.Reading.{Marks, typed_at}
 use Rattle.program.specs.Program.{Program, blocks_at, alarms_at, program_at, memory, figure}
 use Rattle.program.specs.Acceptance.{refused, granted, every_block, marks_of, by_memory, accepted}
-use Rattle.program.specs.Answers.{read_from, blocks_read, end_of, program_read}
+use Rattle.program.specs.Answers.{blocks_read, end_of, program_read}
 use Rattle.program.specs.declared.Reading.{Reading}
 use Rattle.program.proofs.Alarms.{Ended, ended, end_got, end_stop}
 use Rattle.program.proofs.Blocks.{blocks_long, marks_stored}

@@ -61,11 +61,10 @@ pub fn run(
 {
     image::columns_sized(ticks, words, pins, outputs);
     let every = [2u8; 200];
-    let c = numbers::read_number(program, 0, numbers::BLOCK_COUNT, 0, &every);
-    match c {
-        Err(_) => None,
-        Ok((n, next)) => run_counted(
-            program, next, n, elapsed, bits, analogs, ticks, words, pins, outputs,
-        ),
-    }
+    let Ok((n, next)) = numbers::read_number(program, 0, numbers::BLOCK_COUNT, 0, &every) else {
+        return None;
+    };
+    run_counted(
+        program, next, n, elapsed, bits, analogs, ticks, words, pins, outputs,
+    )
 }

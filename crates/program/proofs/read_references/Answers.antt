@@ -2,7 +2,7 @@ use Rattle.program.proofs.Alarms.{references_got, references_stop, references_en
 use Rattle.terms.proofs.Refusals.{handed_on}
 use native.Mathlib.Omega.{arith}
 use native.Mathlib.Nat.{sub-zero}
-use Prim.Native.Nat.{ℕ, ◌+◌, ◌-◌}
+use Prim.Native.Nat.{◌+◌, ◌-◌}
 use mathlib.Core.Path.{◌≡◌, ◌∙◌, sym}
 use Rattle.program.proofs.read_references.Goals as goal
 
