@@ -37,6 +37,7 @@ pub fn write_refused(out: &mut [u8], at: usize, n: u8, place: usize) -> usize
 }
 
 // Puts `bad scan`.
+// Kept: one call of `put` each, and one function for both texts would be no plainer: its callers would hand it the text.
 pub fn write_bad_scan(out: &mut [u8], at: usize) -> usize
     requires { at + line_bytes ≤ length out.old }
     ensures { Put bad_scan out.old at out.new result }
