@@ -2,8 +2,7 @@
 use Rattle.std.specs.Prelude.{List, [], ◌∷◌, Bool, true, not, ℕ, get_or, eqb}
 use Rattle.terms.specs.Choice.{pick}
 use Rattle.terms.specs.Refusals.{bad_number, cut_number, outside, astray}
-use Rattle.wire.specs.declared.Num.{Num}
-use Rattle.wire.specs.declared.Num.TheVariants.{Got, Bad, Cut}
+use Rattle.wire.specs.Number.{Num, Got, Bad, Cut}
 use Rattle.wire.specs.Number.{number_at}
 use Rattle.wire.specs.Reading.{Read, got, fault}
 use Rattle.numbers.specs.Blocks.{Bit, off, on, input, output, Word, analog, word_of, constant, refs_pass}

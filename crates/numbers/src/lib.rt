@@ -5,7 +5,7 @@ ghost use Rattle.std.specs.Prelude.{◌≡◌, ◌<◌, get_or};
 ghost use Rattle.numbers.specs.Types.{number_types, allowed, bit_ref, limits};
 ghost use Rattle.numbers.specs.Reading.{bit_marked, marked, typed_at, as_number};
 
-use wire::Num;
+use wire::Unread;
 
 // The types of number, by the names of specs/Types.
 pub const PIN: u8 = 0;
@@ -140,9 +140,9 @@ pub fn read_number(s: &[u8], at: usize, ty: u8, before: u32, marks: &[u8; 200]) 
 {
     let n = wire::number(s, at);
     match n {
-        Num::Bad => Number::Fault(terms::BAD_NUMBER, at),
-        Num::Cut => Number::Fault(terms::CUT_NUMBER, at),
-        Num::Got(v, next) => {
+        Err(Unread::BadlyFormed) => Number::Fault(terms::BAD_NUMBER, at),
+        Err(Unread::Cut) => Number::Fault(terms::CUT_NUMBER, at),
+        Ok((v, next)) => {
             if allow(ty, before, v) {
                 if is_marked(ty, v, marks) {
                     return Number::Got(v, next);

@@ -12,8 +12,7 @@ use Rattle.terms.specs.Refusals.{outside, astray}
 use Rattle.terms.proofs.Choice.{pick_case}
 use Rattle.terms.proofs.Every.{every_join}
 use Rattle.terms.proofs.Table.{both_left, both_right, at as entry}
-use Rattle.wire.specs.declared.Num.{Num}
-use Rattle.wire.specs.declared.Num.TheVariants.{Got, Bad, Cut}
+use Rattle.wire.specs.Number.{Num, Got, Bad, Cut}
 use Rattle.wire.specs.Number.{number_at}
 use Rattle.wire.specs.Reading.{Read, got, fault, and_then}
 use Rattle.numbers.specs.Blocks.{Bit, Expr, ref, inv, gate, Content, bit, number, tree, leaves, refs_pass, nodes}

@@ -5,9 +5,9 @@ ghost use Rattle.std.specs.Prelude.{◌≡◌, map, ◌+◌, ◌*◌, drop};
 ghost use Rattle.terms.specs.Words.{signed};
 ghost use Rattle.wire.specs.Number.{number_at};
 ghost use Rattle.recording.specs.Recording.{length_in, short_of, shorts_at, scan_at};
-ghost use Rattle.recording.specs.Answers.{answered, recorded_in};
+ghost use Rattle.recording.specs.Answers.{lack_of, answered, recorded_in};
 
-use wire::Num;
+use wire::Unread;
 
 // The longest program.
 pub const PROGRAM: usize = 16384;
@@ -19,16 +19,23 @@ pub enum Lack {
     Cut,
 }
 
+impl From<Unread> for Lack {
+    ghost from_gives = { λ e k. k ≡ lack_of e };
+
+    fn from(e: Unread) -> Lack {
+        match e {
+            Unread::BadlyFormed => Lack::Bad,
+            Unread::Cut => Lack::Cut,
+        }
+    }
+}
+
 // The head of a recording: the length of its program, and the place where that starts.
 #[tactic(auto, using(crate::proofs::Ends::number_within), unfolding(crate::specs::Recording::length_in))]
 pub fn read_head(s: &[u8]) -> Result<(usize, usize), Lack>
     ensures { result ≡ answered (length_in s.now) }
 {
-    let (v, at) = match wire::number(s, 0) {
-        Num::Got(v, at) => (v, at),
-        Num::Bad => return Err(Lack::Bad),
-        Num::Cut => return Err(Lack::Cut),
-    };
+    let (v, at) = wire::number(s, 0)?;
     let size = v as usize;
     if PROGRAM < size {
         return Err(Lack::Bad);
@@ -43,11 +50,7 @@ pub fn read_head(s: &[u8]) -> Result<(usize, usize), Lack>
 fn read_short(s: &[u8], at: usize) -> Result<(u16, usize), Lack>
     ensures { result ≡ answered (short_of (number_at s.now at)) }
 {
-    let (v, next) = match wire::number(s, at) {
-        Num::Got(v, next) => (v, next),
-        Num::Bad => return Err(Lack::Bad),
-        Num::Cut => return Err(Lack::Cut),
-    };
+    let (v, next) = wire::number(s, at)?;
     let short = u16::try_from(v).map_err(|_| Lack::Bad)?;
     Ok((short, next))
 }

@@ -16,6 +16,7 @@ use block::End;
 use expression::Value;
 use numbers::Number;
 use place::Place;
+use rules::Readings;
 
 // Marks the block that a word reference asks for its word.
 fn ask_word(r: u32, asked: &mut [u8; 200])
@@ -130,8 +131,13 @@ fn turn_row(
             if 9 <= kind {
                 ask_words(kind, fields, asked);
             }
+            let now = Readings {
+                bits,
+                words,
+                elapsed: e,
+            };
             Turned {
-                place: rules::apply(kind, fields, p, bits, words, e),
+                place: rules::apply(kind, fields, p, now),
                 steps: 1,
                 memory: kinds::memory_of(kind),
                 mark: kinds::mark_of(kind),

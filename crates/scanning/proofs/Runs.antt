@@ -10,8 +10,7 @@ use lib.ListN.{length, take}
 use borrow.Author.Tests.{ne_eqb}
 use Rattle.terms.proofs.Choice.{both}
 use Rattle.wire.specs.Number.{number_at}
-use Rattle.wire.specs.declared.Num.{Num}
-use Rattle.wire.specs.declared.Num.TheVariants.{Got, Bad, Cut}
+use Rattle.wire.specs.Number.{Num, Got, Bad, Cut}
 use Rattle.wire.specs.Reading.{Read, got, fault, and_then}
 use Rattle.numbers.specs.Blocks.{Bit, Block}
 use Rattle.numbers.specs.Types.{block_count, said_by, content_of}

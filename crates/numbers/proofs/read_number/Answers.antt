@@ -1,6 +1,6 @@
 -- `numbers::read_number` meets its contract: the number's answer, and then the two tests.
-use mathlib.Core.Path.{◌∙◌, sym}
-use borrow.Author.Rules.{rules}
+use Rattle.std.proofs.Common.{◌∙◌, sym}
+use Rattle.wire.proofs.Answered.{num_is, num_unread}
 use Rattle.numbers.specs.Reading.{typed_at}
 use Rattle.numbers.proofs.References.{allowed_below}
 use Rattle.numbers.proofs.read_number.Goals as goal
@@ -13,7 +13,7 @@ pub returns-then-is_marked : goal.returns-then-is_marked
 unfolding typed_at
 returns-then-is_marked c =
     rw (
-      sym c.number-n.ensures ∙ c.in-Got.is,
+      num_is _ (sym c.number-n.ensures ∙ c.in-Ok.is),
       sym c.allow.ensures ∙ c.if-allow.true,
       sym c.is_marked.ensures ∙ c.if-is_marked.true,
     )
@@ -22,22 +22,22 @@ pub returns-then-allow : goal.returns-then-allow
 unfolding typed_at
 returns-then-allow c =
     rw (
-      sym c.number-n.ensures ∙ c.in-Got.is,
+      num_is _ (sym c.number-n.ensures ∙ c.in-Ok.is),
       sym c.allow.ensures ∙ c.if-allow.true,
       sym c.is_marked.ensures ∙ c.if-is_marked.false,
     )
 
-pub returns-in-Bad : goal.returns-in-Bad
+pub returns-in-Err-BadlyFormed : goal.returns-in-Err-BadlyFormed
 unfolding typed_at
-returns-in-Bad c =
-    rw (sym c.number-n.ensures ∙ c.in-Bad.is)
+returns-in-Err-BadlyFormed c =
+    rw (num_unread _ (sym c.number-n.ensures ∙ c.in-Err-BadlyFormed.is) (rw c.in-Err-BadlyFormed.is at c.in-Err-BadlyFormed.field-0-is))
 
-pub returns-in-Cut : goal.returns-in-Cut
+pub returns-in-Err-Cut : goal.returns-in-Err-Cut
 unfolding typed_at
-returns-in-Cut c =
-    rw (sym c.number-n.ensures ∙ c.in-Cut.is)
+returns-in-Err-Cut c =
+    rw (num_unread _ (sym c.number-n.ensures ∙ c.in-Err-Cut.is) (rw c.in-Err-Cut.is at c.in-Err-Cut.field-0-is))
 
 pub returns-else-allow : goal.returns-else-allow
 unfolding typed_at
 returns-else-allow c =
-    rw (sym c.number-n.ensures ∙ c.in-Got.is, sym c.allow.ensures ∙ c.if-allow.false)
+    rw (num_is _ (sym c.number-n.ensures ∙ c.in-Ok.is), sym c.allow.ensures ∙ c.if-allow.false)
