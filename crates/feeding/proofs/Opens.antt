@@ -52,9 +52,9 @@ data Open (o : Opening) (size next : ℕ) : Type 0 where
 
 is_open : (o : Opening) {size next : ℕ} → opened_as o ≡ Ok (size, next) → Open o size next
 is_open (opens program k) {size} {next} e =
-    let es : length program ≡ size = cc in
-    let en : k ≡ next = cc in
-    open_at program (rw en) es
+    let same : ◌≡◌ {A = ℕ × ℕ} (length program, k) (size, next) = cc in
+    let k_is : k ≡ next = ap (λ (x : ℕ × ℕ). x.1) same in
+    open_at program (rw k_is) (ap (λ (x : ℕ × ℕ). x.0) same)
 is_open (refuses_it k p) e = cc
 is_open fails_it e = cc
 is_open waits_it e = cc

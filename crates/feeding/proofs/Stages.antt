@@ -77,14 +77,14 @@ over_fed w p l =
     record { told = t; program = refl; stage = refl; left = left_told over w t }
 
 -- the program of a player stays within its buffer
-keeps_held : {program p : List ℕ} {g : Stage} → length program ≤ length p → Keeps program g → Held (player_of g) p
-keeps_held h (plays st) = h
-keeps_held h ended = tt
+keeps_held : {program : List ℕ} (p : List ℕ) {g : Stage} → length program ≤ length p → Keeps program g → Held (player_of g) p
+keeps_held p h (plays st) = h
+keeps_held p h ended = tt
 
 open_held : (w p : List ℕ) → program_bytes ≤ length p → (o : Opening) → opening_in w ≡ o → Held (player_of (opened_to w o).stage) p
 open_held w p h (opens program next) e =
     let f = opens_fit w e in
-    keeps_held (omega (arith, f.0)) (keeps program fresh_state (drop next w))
+    keeps_held p (omega (arith, f.0)) (keeps program fresh_state (drop next w))
 open_held w p h (refuses_it k at) e = tt
 open_held w p h fails_it e = tt
 open_held w p h waits_it e = tt
@@ -94,5 +94,5 @@ unfolding fed
 stays_held IsOpening p w h k = open_held w p h (opening_in w) refl
 stays_held (Playing size st) p w h k =
     let l : length (take size p) ≤ length p = rw (length-take-le size p k) k in
-    keeps_held l (keeps (take size p) st w)
+    keeps_held p l (keeps (take size p) st w)
 stays_held Over p w h k = tt
