@@ -1,11 +1,11 @@
 -- What a read says. Assumes nothing.
-use Prim.Native.Nat.{ℕ, zero, suc, ◌+◌, ◌-◌, ◌≤◌, ◌<◌}
-use mathlib.Core.Path.{◌≡◌, refl, ◌∙◌}
+use Prim.Native.Nat.{ℕ, zero, suc, ◌+◌, ◌-◌, ◌≤◌, min}
+use mathlib.Core.Path.{◌≡◌}
 use mathlib.Core.List.{List, ◌++◌}
 use native.Mathlib.Omega.{arith}
 use lib.ListN.{length, take, drop, length-take, length-drop, length-append}
 use lib.Seq.{take_at, length-take-le}
-use Rattle.std.specs.Prelude.{Result, Ok, Err, Option, Some, None}
+use Rattle.std.specs.Prelude.{Result, Ok, Err, Option, Some}
 use Rattle.reading.specs.Reading.{input_of, Inside}
 
 -- what is read lies within the room that there was
@@ -29,3 +29,9 @@ fits_behind kept b tail h =
     let d = take kept b ++ tail in
     let front : kept ≤ length d = simp length-append (omega (arith, length-take-le kept b h)) in
     simp (length-take, length-drop) (omega (arith, front))
+
+pub gives : {E : Type 0} (got : Result ℕ E) (room : ℕ) {n m : ℕ} → got ≡ Ok n → (n ≡ 0 → ⊥) → m ≡ min n room → Ok (Some m) ≡ input_of got room
+unfolding input_of
+gives (Ok zero) room e h f = absurd (h (cc))
+gives (Ok (suc k)) room {n} e h f = let same : suc k ≡ n = cc in rw (f, same)
+gives (Err x) room e h f = cc

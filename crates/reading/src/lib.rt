@@ -11,14 +11,19 @@ use std::io::Read;
 pub fn told_by(got: io::Result<usize>, space: &[u8]) -> io::Result<Option<usize>>
     ensures { result ≡ input_of got (length space.now) }
 {
-    match got? {
-        0 => Ok(None),
-        n => Ok(Some(n.min(space.len()))),
+    let n = got?;
+    if n == 0 {
+        return Ok(None);
     }
+    Ok(Some(n.min(space.len())))
 }
 
 // Reads on behind what is kept. What is read is not in the logic.
-pub fn read_behind<R: Read>(reader: &mut R, buf: &mut [u8], kept: usize) -> io::Result<Option<usize>>
+pub fn read_behind<R: Read>(
+    reader: &mut R,
+    buf: &mut [u8],
+    kept: usize,
+) -> io::Result<Option<usize>>
     requires { kept < length buf.old }
     ensures { (take kept buf.new ≡ take kept buf.old) × Inside kept buf.new result }
 {
