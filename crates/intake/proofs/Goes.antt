@@ -20,6 +20,10 @@ use Rattle.reading.specs.Reading.{Inside}
 use Rattle.keeping.specs.declared.Keep.{Keep}
 use Rattle.intake.specs.Intake.{ended_at, Ended, WentOn, fails, ends, reads}
 
+-- what was read, by what stands within
+pub read_is : {E : Type 0} {got : Result (Option ℕ) E} {f g : Option ℕ} → got ≡ Ok f → f ≡ g → got ≡ Ok g
+read_is e h = rw e (ap Ok h)
+
 -- bytes that were read lie within the buffer
 pub behind : {E : Type 0} (kept : ℕ) (b : List ℕ) {n : ℕ} {got : Result (Option ℕ) E} → Inside kept b got → got ≡ Ok (Some n) → kept + n ≤ length b
 behind kept b h e = subst (Inside kept b) e h
