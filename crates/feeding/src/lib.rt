@@ -22,13 +22,7 @@ fn open(window: &[u8], program: &mut [u8], out: &mut [u8]) -> Fed
         out.old out.new result }
 {
     match playback::open_recording(window, program) {
-        Ok((size, next)) => telling::play(
-            window,
-            next,
-            &program[..size],
-            State::fresh(),
-            out,
-        ),
+        Ok((size, next)) => telling::play(window, next, &program[..size], State::fresh(), out),
         Err(Halt::Refused(n, place)) => {
             let to = lines::write_refused(out, 0, n, place);
             telling::ended(window.len(), to)
