@@ -18,8 +18,7 @@ use Rattle.wire.specs.Reading.{Read, got, fault, and_then}
 use Rattle.numbers.specs.Reading.{Marks, marked, judged, typed_at}
 use Rattle.nodes.specs.Reading.{node_of, head_at, grow, expr_at}
 use Rattle.block.specs.Reading.{content_at, fields_at, block_at}
-use Rattle.nodes.specs.declared.Node.{Node}
-use Rattle.nodes.specs.declared.Node.TheVariants.{Leaf, One, Two, Stop}
+use Rattle.nodes.specs.Reading.{Node, Leaf, One, Two, Stop}
 use Rattle.program.specs.Program.{blocks_at, references_at, end_at, alarms_at, program_at}
 
 pub data Real (k : Marks) (n : ℕ) : Type 0 where

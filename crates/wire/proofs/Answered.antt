@@ -1,26 +1,23 @@
 -- What an answer of the code says tells which answer it is. Assumes nothing.
-use Rattle.std.proofs.Common.{◌≡◌, ℕ, ap, ◌∙◌}
+use Rattle.std.proofs.Common.{◌≡◌, ℕ, refl, ap, ◌∙◌}
 use Rattle.std.specs.Prelude.{Result, Ok, Err}
 use Rattle.terms.specs.declared.refusal.Fault.{Fault}
-use Rattle.terms.specs.declared.refusal.Refusal.{Refusal}
-use Rattle.terms.specs.Refusals.{number_of}
-use Rattle.terms.proofs.Refusals.{one_refusal}
+use Rattle.terms.proofs.Refusals.{fault_of, fault_back, undone}
 use Rattle.wire.specs.declared.Unread.{Unread}
 use Rattle.wire.specs.declared.Unread.TheVariants.{BadlyFormed, Cut as CutShort}
 use Rattle.wire.specs.Number.{Num, Got, Bad, Cut, as_num}
-use Rattle.wire.specs.Reading.{read_of}
+use Rattle.wire.specs.Reading.{Read, got, fault, read_of}
 
-same_fault : (a b : Refusal) (m n : ℕ) → a ≡ b → m ≡ n → ◌≡◌ {A = Fault} (record { refusal = a; at = m }) (record { refusal = b; at = n })
-same_fault a b m n e f = cc
+abbrev answer_of : {A : Type 0} → Read A → Result (A × ℕ) Fault
+answer_of (got a next) = Ok (a, next)
+answer_of (fault n at) = Err (fault_of n at)
 
-pub one_answer : {A : Type 0} (a b : Result (A × ℕ) Fault) → read_of a ≡ read_of b → a ≡ b
-one_answer (Ok (a, m)) (Ok (b, n)) e = cc
-one_answer (Ok (a, m)) (Err g) e = cc
-one_answer (Err f) (Ok (b, n)) e = cc
-one_answer (Err f) (Err g) e =
-    let r : number_of f.refusal ≡ number_of g.refusal = cc in
-    let p : f.at ≡ g.at = cc in
-    ap Err (same_fault f.refusal g.refusal f.at g.at (one_refusal f.refusal g.refusal r) p)
+back : {A : Type 0} (a : Result (A × ℕ) Fault) → answer_of (read_of a) ≡ a
+back (Ok (a, next)) = refl
+back (Err f) = ap Err (fault_back f)
+
+pub one_read : {A : Type 0} (a b : Result (A × ℕ) Fault) → read_of a ≡ read_of b → a ≡ b
+one_read a b e = undone read_of answer_of back a b e
 
 -- what the code's answer says of a number
 abbrev pub num_of : Result (ℕ × ℕ) Unread → Num
