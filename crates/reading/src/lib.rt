@@ -31,6 +31,7 @@ pub fn read_behind<R: Read>(
     told_by(got, &buf[kept..])
 }
 
+// Kept: a loop, since there is no heap for `read_to_end`, and `read_exact` does not tell how far it came.
 // Reads until the buffer is full, the input ends or a read fails, and answers how many bytes it put at the front.
 pub fn read_full<R: Read>(reader: &mut R, buf: &mut [u8]) -> usize
     ensures { result ≤ length buf.new }
