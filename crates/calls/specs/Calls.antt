@@ -59,8 +59,8 @@ handed_by s t =
     record {
       state = record { places = s.places; time = s.time; alarms = s.alarms; journal = t.journal };
       refusal = 0;
-      found = t.found;
-      entry = t.entry;
+      found = is_some t.entry;
+      entry = unwrap_or t.entry zero_entry;
     }
 
 unfoldable pub take_of : State → Handed
