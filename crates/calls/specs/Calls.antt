@@ -1,5 +1,5 @@
 -- Document 01: the whole answer of a scan and of a take, refusals included.
-use Rattle.std.specs.Prelude.{false, not, List, ℕ, ◌+◌, eqb}
+use Rattle.std.specs.Prelude.{is_some, unwrap_or, false, not, List, ℕ, ◌+◌, eqb}
 use Rattle.terms.specs.Choice.{pick}
 use Rattle.terms.specs.Refusals.{bad_state, too_far}
 use Rattle.wire.specs.Reading.{Read, got, fault}
