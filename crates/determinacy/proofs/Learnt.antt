@@ -43,8 +43,6 @@ use Rattle.inspection.proofs.good.Reads as inspection_good
 use Rattle.inspection.proofs.is_late.Reads as inspection_is_late
 use Rattle.log_book.proofs.close.Reads as logbook_close
 use Rattle.log_book.proofs.hand_out.Reads as logbook_hand_out
-use Rattle.copies.proofs.copy_ticks.Reads as copies_copy_ticks
-use Rattle.copies.proofs.copy_pins.Reads as copies_copy_pins
 use Rattle.loading.proofs.load_bits.Reads as loading_load_bits
 use Rattle.loading.proofs.load_words.Reads as loading_load_words
 use Rattle.copies.proofs.store_words.Reads as copies_store_words
@@ -156,8 +154,6 @@ pub record Determinacy : Type 0 where
   pub inspection_is_late : Determined inspection_is_late.Learnt
   pub logbook_close : DeterminedWith (λ κ u. log_from u.1.1) logbook_close.Learnt
   pub logbook_hand_out : DeterminedWith (λ κ u. log_from u) logbook_hand_out.Learnt
-  pub copies_copy_ticks : DeterminedWith (λ κ u. u.1.1.0.now) copies_copy_ticks.Learnt
-  pub copies_copy_pins : DeterminedWith (λ κ u. u.1.1.0.now) copies_copy_pins.Learnt
   pub loading_load_bits : DeterminedWith (λ κ u. u.1.1.1.0.now) loading_load_bits.Learnt
   pub loading_load_words : DeterminedWith (λ κ u. u.1.1.1.0.now) loading_load_words.Learnt
   pub copies_store_words : DeterminedWith (λ κ u. u.1.1.0.now) copies_store_words.Learnt
@@ -265,8 +261,6 @@ all =
       inspection_is_late = λ κ a x y u v h k. cc;
       logbook_close = λ κ a x y u v h k. (h.0 ∙ sym k.0, h.1 ∙ sym k.1);
       logbook_hand_out = λ κ a x y u v h k. (h.0 ∙ sym k.0, h.1 ∙ sym k.1);
-      copies_copy_ticks = λ κ a x y u v h k. (refl, h ∙ sym k);
-      copies_copy_pins = λ κ a x y u v h k. (refl, h ∙ sym k);
       loading_load_bits = λ κ a x y u v h k. (refl, h ∙ sym k);
       loading_load_words = λ κ a x y u v h k. (refl, h ∙ sym k);
       copies_store_words = λ κ a x y u v h k. (refl, h ∙ sym k);

@@ -17,4 +17,4 @@ pub returns : goal.returns
 returns c =
     let good = good_parts _ (sym c.good.ensures ∙ c.if-not-good.false) in
     let out = c.hand_out-oldest.ensures in
-    record { value = rw (c.is_some.ensures, c.zero.ensures, c.unwrap_or.ensures, out.value) (sym (by_take _ good)); after = rw out.after (image_taken _ good c.columns_sized.ensures) }
+    record { value = rw (c.is_some.ensures, c.unwrap_or.ensures, c.zero.ensures, out.value) (sym (by_take _ good)); after = rw out.after (image_taken _ good c.columns_sized.ensures) }
