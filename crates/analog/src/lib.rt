@@ -8,6 +8,7 @@ ghost use Rattle.analog.specs.Analog.{related, cp, scaled, og, zc, st};
 use place::Place;
 
 // A (relation) B.
+// Kept: relation and mode are the numbers of a program's settings, as `related` and `zc` have them (what may not change).
 fn relates(relation: u32, a: i16, b: i16) -> bool
     ensures { result ≡ related relation a b }
 {

@@ -8,7 +8,6 @@ use denote.Param.Laws.{Laws, IsCopy}
 use mir.Syntax.{Dict}
 use Rattle.std.specs.declared.clone.Clone.{Ghosts}
 use Rattle.typed.proofs.Answering.{one_answer}
-use lib.ListN.{length-replicate}
 use Rattle.determinacy.specs.Determinacy.{log_from, columns_from, image_from, image_read_from, arrays_from}
 use Rattle.determinacy.proofs.Loose.{filled, differ}
 use Rattle.terms.proofs.signed.Reads as terms_signed

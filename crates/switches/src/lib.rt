@@ -12,6 +12,7 @@ pub fn bl(value: bool, p: Place) -> Place
     Place { out: value, ..p }
 }
 
+// Kept: priority and mode are the numbers of a program's settings, as `sr` and `pl` have them (what may not change).
 pub fn sr(s: bool, r: bool, priority: u32, p: Place) -> Place
     ensures { result ≡ sr s r priority p }
 {

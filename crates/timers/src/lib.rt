@@ -8,6 +8,7 @@ ghost use Rattle.timers.specs.Timers.{ticks_in, dl_ticks, dl, os, fl};
 use place::Place;
 
 // A time in ticks.
+// Kept: the unit is the number of a program's setting, as `ticks_in` has it (what may not change).
 fn ticks_in(unit: u32, time: u32) -> u64
     ensures { result ≡ ticks_in unit time }
 {

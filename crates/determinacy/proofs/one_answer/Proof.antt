@@ -120,7 +120,7 @@ module _ {M : Type 1} {𝓤 : Ura M} (𝓛 : Logic 𝓤) where
       (conj_i 𝓤 _ _ (reading_move_down_row 𝓛)
       (conj_i 𝓤 _ _ (keeping_feed_window_row 𝓛)
       (conj_i 𝓤 _ _ (intake_go_on_row 𝓛)
-      (loose 𝓛))))))))))))))))))))))))))))))))))))))))))))))))))))))))))))))))))))))))))))))))))))))))))))))))
+      (loose 𝓛)))))))))))))))))))))))))))))))))))))))))))))))))))))))))))))))))))))))))))))))))))))))))))))))))
 
 pub one_answer_spec : {M : Type 1} → statement M
 one_answer_spec 𝓤 𝓛 𝓜 𝓡 wired =
