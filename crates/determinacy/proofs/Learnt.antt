@@ -122,7 +122,7 @@ abbrev pub DeterminedWith : {L : Type 0} {K : Type 0} {A B E : K → Type 0} →
 DeterminedWith {L} {K} {A} {B} {E} lent Learnt =
     (κ : K) (a : A κ) (x y : B κ) (u v : E κ) → Learnt κ a x u → Learnt κ a y v → (x ≡ y) × (lent κ u ≡ lent κ v)
 
-pub record Determinacy : Type 1 where
+pub record Determinacy : Type 2 where
   pub terms_signed : Determined terms_signed.Learnt
   pub terms_hold : Determined terms_hold.Learnt
   pub terms_refusal_number : Determined terms_refusal_number.Learnt

@@ -223,10 +223,10 @@ module _ {M : Type 1} {𝓤 : Ura M} (𝓛 : Logic 𝓤) where
   pub logbook_hand_out_row : ent 𝓤 (emp 𝓤) (DeterminedWith 𝓛 logbook_hand_out.ended (logbook_hand_out.clauses 𝓛) (λ κ u. log_from u))
   logbook_hand_out_row = determined_with 𝓛 logbook_hand_out.ended (logbook_hand_out.clauses 𝓛) (λ κ u. log_from u) (λ κs a g x y u v. four 𝓤 _ _ _ _ _ (λ h h' k k'. (h ∙ sym k, h' ∙ sym k')))
 
-  pub copies_copy_first_row : ent 𝓤 (emp 𝓤) (DeterminedOfAny 𝓛 {L = λ A. List A.Denot} copies_copy_first.ended (λ A g d. copies_copy_first.clauses A g d _ 𝓤 𝓛) (λ A g d κ u. u.1.1.0.now))
+  pub copies_copy_first_row : ent 𝓤 (emp 𝓤) (DeterminedOfAny 𝓛 {L = λ A. List A.Denot} copies_copy_first.ended (λ A g d. copies_copy_first.clauses A g d 𝓛) (λ A g d κ u. u.1.1.0.now))
   copies_copy_first_row =
       all_i 𝓤 _ (λ A. all_i 𝓤 _ (λ g. all_i 𝓤 _ (λ d.
-      determined_with 𝓛 (copies_copy_first.ended A g d) (copies_copy_first.clauses A g d _ 𝓤 𝓛) (λ κ u. u.1.1.0.now) (λ κs a r x y u v. two 𝓤 _ _ _ (λ h k. (refl, h ∙ sym k))))))
+      determined_with 𝓛 (copies_copy_first.ended A g d) (copies_copy_first.clauses A g d 𝓛) (λ κ u. u.1.1.0.now) (λ κs a r x y u v. two 𝓤 _ _ _ (λ h k. (refl, h ∙ sym k))))))
 
   pub loading_load_bits_row : ent 𝓤 (emp 𝓤) (DeterminedWith 𝓛 loading_load_bits.ended (loading_load_bits.clauses 𝓛) (λ κ u. u.1.1.1.0.now))
   loading_load_bits_row = determined_with 𝓛 loading_load_bits.ended (loading_load_bits.clauses 𝓛) (λ κ u. u.1.1.1.0.now) (λ κs a g x y u v. two 𝓤 _ _ _ (λ h k. (refl, h ∙ sym k)))

@@ -4,7 +4,7 @@ use Rattle.std.specs.Prelude.{Bool, List, ◌≡◌, ℕ, ℤ}
 use Rattle.std.specs.Borrow.{Bor, MutBor}
 use Rattle.std.specs.declared.clone.Clone.{Ghosts}
 use seplogic.Ra.Ura.{Ura}
-use base.Logic.{SProp}
+use base.Logic.{SProp, all}
 use types.Logic.{Logic}
 use contract.Lifetimes.{Lfts}
 use contract.Monad.{Fun}
@@ -175,7 +175,7 @@ module _ {M : Type 1} {𝓤 : Ura M} (𝓛 : Logic 𝓤) where
       {L : RattleType → Type 0} (T : (A : RattleType) → Ghosts A.Denot → Dict → Ended) → ((A : RattleType) (g : Ghosts A.Denot) (d : Dict) → Contract (T A g d))
       → ((A : RattleType) (g : Ghosts A.Denot) (d : Dict) (κs : Lfts (T A g d).signature.lifetimes) → AtExit (T A g d) κs → L A) → SProp 𝓤
   DeterminedOfAny T c lent =
-      ∀ₛ (λ (A : RattleType). ∀ₛ (λ (g : Ghosts A.Denot). ∀ₛ (λ (d : Dict). DeterminedWith (T A g d) (c A g d) (lent A g d))))
+      all 𝓤 (λ (A : RattleType). all 𝓤 (λ (g : Ghosts A.Denot). all 𝓤 (λ (d : Dict). DeterminedWith (T A g d) (c A g d) (lent A g d))))
 
   abbrev pub Determinacy : SProp 𝓤
   Determinacy =
@@ -216,7 +216,7 @@ module _ {M : Type 1} {𝓤 : Ura M} (𝓛 : Logic 𝓤) where
       ∧ₛ Determined inspection_is_late.ended (inspection_is_late.clauses 𝓛)
       ∧ₛ DeterminedWith logbook_close.ended (logbook_close.clauses 𝓛) (λ κ u. log_from u.1.1)
       ∧ₛ DeterminedWith logbook_hand_out.ended (logbook_hand_out.clauses 𝓛) (λ κ u. log_from u)
-      ∧ₛ DeterminedOfAny {L = λ A. List A.Denot} copies_copy_first.ended (λ A g d. copies_copy_first.clauses A g d _ 𝓤 𝓛) (λ A g d κ u. u.1.1.0.now)
+      ∧ₛ DeterminedOfAny {L = λ A. List A.Denot} copies_copy_first.ended (λ A g d. copies_copy_first.clauses A g d 𝓛) (λ A g d κ u. u.1.1.0.now)
       ∧ₛ DeterminedWith loading_load_bits.ended (loading_load_bits.clauses 𝓛) (λ κ u. u.1.1.1.0.now)
       ∧ₛ DeterminedWith loading_load_words.ended (loading_load_words.clauses 𝓛) (λ κ u. u.1.1.1.0.now)
       ∧ₛ DeterminedWith copies_store_words.ended (copies_store_words.clauses 𝓛) (λ κ u. u.1.1.0.now)
