@@ -27,7 +27,7 @@ fn truths_of(op: u32) -> u32
 fn gate(op: u32, x: bool, y: bool) -> bool
     ensures { result ≡ gate_of op x y }
 {
-    let k = 2 * (x as u32) + (y as u32);
+    let k = 2 * u32::from(x) + u32::from(y);
     (truths_of(op) >> k) % 2 == 1
 }
 
@@ -50,7 +50,7 @@ fn skips_of(op: u32) -> u32
 fn skips(op: u32, x: bool) -> bool
     ensures { result ≡ skips_of op x }
 {
-    (skips_of(op) >> (x as u32)) % 2 == 1
+    (skips_of(op) >> u32::from(x)) % 2 == 1
 }
 
 // The value of an expression, its steps, the place after it and the nodes left.
