@@ -1,8 +1,8 @@
 -- Request L4, import: the names of an alarms' line one by one, and how many there are (ours; Layout says what is good).
 use Rattle.std.specs.Prelude.{ℕ, zero, suc, ◌+◌, List, [], ◌∷◌, length, ltb, leb}
 use Rattle.terms.specs.Choice.{pick}
-use Rattle.spelling.specs.declared.Named.{Named}
-use Rattle.spelling.specs.declared.Named.TheVariants.{Bit as BitName, NoName}
+use Rattle.spelling.specs.Spelling.{Named}
+use Rattle.spelling.specs.Spelling.{Bit as BitName, NoName}
 use Rattle.spelling.specs.Spelling.{after_spaces, name_at}
 use Rattle.words.specs.Words.{alarms, word_text}
 use Rattle.layout.specs.Layout.{most_named}

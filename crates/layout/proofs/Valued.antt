@@ -17,10 +17,10 @@ use Rattle.numbers.proofs.References.{bit_code_lem}
 use Rattle.numbers.specs.Types.{pin, word_pin, plus_minus, divisor, limits, number_types, bit_ref, word_ref}
 use Rattle.grammar.specs.Machine.{tens, may_be}
 use Rattle.grammar.proofs.From.{there}
-use Rattle.spelling.specs.declared.Digits.{Digits}
-use Rattle.spelling.specs.declared.Digits.TheVariants.{Got as DigitsGot, Bad as DigitsBad}
-use Rattle.spelling.specs.declared.Named.{Named}
-use Rattle.spelling.specs.declared.Named.TheVariants.{Bit as BitName, NoName}
+use Rattle.spelling.specs.Spelling.{Digits}
+use Rattle.spelling.specs.Spelling.{Got as DigitsGot, Bad as DigitsBad}
+use Rattle.spelling.specs.Spelling.{Named}
+use Rattle.spelling.specs.Spelling.{Bit as BitName, NoName}
 use Rattle.spelling.specs.Spelling.{digits_at, name_at}
 use Rattle.forms.proofs.Numbers.{bit_in_range}
 use Rattle.shown.specs.Show.{in_digits}

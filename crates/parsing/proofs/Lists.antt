@@ -13,7 +13,7 @@ use Rattle.grammar.specs.Machine.{want, had, dead, stop, from, Spans}
 use Rattle.grammar.proofs.Complete.{passes, sign}
 use Rattle.grammar.proofs.Places.{not_dead}
 use Rattle.grammar.proofs.From.{rest, after, goes}
-use Rattle.spelling.specs.declared.Sign.TheVariants.{Nothing, Broken}
+use Rattle.spelling.specs.Spelling.{Nothing, Broken}
 use Rattle.spelling.specs.Spelling.{number_of, level_of, sign_at}
 use Rattle.spelling.proofs.Signs.{Signed, sign_broken}
 use Rattle.parsing.specs.declared.Piece.{Piece}

@@ -6,7 +6,7 @@ use Rattle.numbers.specs.Blocks.{Expr, nodes}
 use Rattle.writing.specs.Expressions.{operator_first, depth}
 use Rattle.grammar.specs.Grammar.{space, Level, or_list, xor_list, and_list, part, Reads}
 use Rattle.grammar.specs.Machine.{want, stop, from, Spans}
-use Rattle.spelling.specs.declared.Sign.TheVariants.{Nothing}
+use Rattle.spelling.specs.Spelling.{Nothing}
 use Rattle.spelling.specs.Spelling.{number_of, sign_at}
 use Rattle.parsing.specs.declared.Piece.{Piece}
 use Rattle.parsing.specs.declared.Piece.TheVariants.{Read, Bad}

@@ -15,10 +15,10 @@ use Rattle.grammar.specs.Machine.{State, want, digits, dead, tens, may_be, is_di
 use Rattle.grammar.proofs.Machines.{run}
 use Rattle.grammar.proofs.Complete.{may_be_lem}
 use Rattle.grammar.proofs.From.{nothing, byte, after, there, goes, halts}
-use Rattle.spelling.specs.declared.Digits.{Digits}
-use Rattle.spelling.specs.declared.Digits.TheVariants.{Got, Bad}
-use Rattle.spelling.specs.declared.Named.{Named}
-use Rattle.spelling.specs.declared.Named.TheVariants.{Bit as BitName, NoName}
+use Rattle.spelling.specs.Spelling.{Digits}
+use Rattle.spelling.specs.Spelling.{Got, Bad}
+use Rattle.spelling.specs.Spelling.{Named}
+use Rattle.spelling.specs.Spelling.{Bit as BitName, NoName}
 use Rattle.spelling.specs.Spelling.{digits_at, named, name_at}
 
 -- one byte that does not kill the acceptor

@@ -12,8 +12,8 @@ use Rattle.wire.specs.Number.{byte_at}
 use Rattle.grammar.specs.Grammar.{closing, Level, or_list, xor_list, and_list, part, Operator, and_sign, nand_sign, xor_sign, or_sign, nor_sign}
 use Rattle.grammar.specs.Machine.{State, had, banged, dead, closes, step, stop, from, Spans}
 use Rattle.grammar.proofs.From.{byte, after, there, halts}
-use Rattle.spelling.specs.declared.Sign.{Sign}
-use Rattle.spelling.specs.declared.Sign.TheVariants.{Of, Nothing, Broken}
+use Rattle.spelling.specs.Spelling.{Sign}
+use Rattle.spelling.specs.Spelling.{Of, Nothing, Broken}
 use Rattle.spelling.specs.Spelling.{number_of, level_of, of_level, banged_at, sign_at}
 use Rattle.spelling.proofs.Names.{eats}
 

@@ -13,7 +13,7 @@ use Rattle.filling.specs.Filling.{decimal}
 use Rattle.numbers.specs.Types.{number_types, limits}
 use Rattle.grammar.specs.Grammar.{no_digits}
 use Rattle.grammar.specs.Machine.{tens, may_be}
-use Rattle.spelling.specs.declared.Digits.TheVariants.{Got as DigitsGot}
+use Rattle.spelling.specs.Spelling.{Got as DigitsGot}
 use Rattle.spelling.specs.Spelling.{digits_at}
 use Rattle.spelling.proofs.Names.{digits_good}
 use Rattle.values.specs.declared.Run.{Run}

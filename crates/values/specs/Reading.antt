@@ -5,10 +5,10 @@ use Rattle.wire.specs.Number.{byte_at}
 use Rattle.filling.specs.Filling.{decimal}
 use Rattle.numbers.specs.Types.{pin, word_pin, limits}
 use Rattle.grammar.specs.Machine.{is_digit}
-use Rattle.spelling.specs.declared.Digits.{Digits}
-use Rattle.spelling.specs.declared.Digits.TheVariants.{Got as DigitsGot, Bad as DigitsBad}
-use Rattle.spelling.specs.declared.Named.{Named}
-use Rattle.spelling.specs.declared.Named.TheVariants.{Bit, NoName}
+use Rattle.spelling.specs.Spelling.{Digits}
+use Rattle.spelling.specs.Spelling.{Got as DigitsGot, Bad as DigitsBad}
+use Rattle.spelling.specs.Spelling.{Named}
+use Rattle.spelling.specs.Spelling.{Bit, NoName}
 use Rattle.spelling.specs.Spelling.{digits_at, name_at}
 use Rattle.values.specs.declared.Run.{Run}
 use Rattle.values.specs.declared.Value.{Value}
