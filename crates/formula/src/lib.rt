@@ -35,14 +35,17 @@ pub fn read_formula(text: &[u8]) -> Expression
     match parsing::list_nodes(text) {
         Err(k) => refuse(terms::BAD_TEXT, k),
         Ok(tree) => {
-            if (nodes::MOST_NODES as usize) < tree.count || (nodes::MOST_DEEP as usize) < tree.deep {
+            if (nodes::MOST_NODES as usize) < tree.count
+                || (nodes::MOST_DEEP as usize) < tree.deep
+            {
                 return refuse(terms::OUTSIDE, 0);
             }
+            let nodes = tree.nodes;
             Expression {
                 refusal: 0,
                 place: 0,
                 count: tree.count as u8,
-                nodes: tree.nodes,
+                nodes,
             }
         }
     }
