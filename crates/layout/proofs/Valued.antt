@@ -24,8 +24,8 @@ use Rattle.spelling.specs.Spelling.{Bit as BitName, NoName}
 use Rattle.spelling.specs.Spelling.{digits_at, name_at}
 use Rattle.forms.proofs.Numbers.{bit_in_range}
 use Rattle.shown.specs.Show.{in_digits}
-use Rattle.values.specs.declared.Value.{Value}
-use Rattle.values.specs.declared.Value.TheVariants.{Got}
+use Rattle.values.specs.Reading.{Value}
+use Rattle.values.specs.Reading.{Got}
 use Rattle.values.specs.Values.{letter_a, letter_w, constant_bias, word_name, bias_of, value_text, in_field}
 use Rattle.values.specs.Reading.{signed_at, analog_of, word_of_block, word_at, bit_of, value_at}
 use Rattle.layout.proofs.Runs.{in_digits_long}

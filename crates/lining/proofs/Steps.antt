@@ -16,8 +16,8 @@ use Rattle.numbers.specs.Types.{number_types, kind_count}
 use Rattle.grammar.specs.Grammar.{space}
 use Rattle.spelling.specs.Spelling.{after_spaces}
 use Rattle.words.specs.Words.{word_count, words, word_text}
-use Rattle.values.specs.declared.Value.{Value}
-use Rattle.values.specs.declared.Value.TheVariants.{Got, Bad}
+use Rattle.values.specs.Reading.{Value}
+use Rattle.values.specs.Reading.{Got, Bad}
 use Rattle.values.specs.Reading.{value_at}
 use Rattle.kinds.specs.Kinds.{LeftOut, never, reads, Field, kind_of, fields_of, listed_fields}
 use Rattle.columns.specs.Columns.{no_field, field_of, must_stand, left_code}

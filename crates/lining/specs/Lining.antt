@@ -2,8 +2,8 @@
 use Rattle.std.specs.Prelude.{ℕ, true, false, List, replicate}
 use Rattle.std.proofs.lemmas.List.Edits.{sets}
 use Rattle.terms.specs.Choice.{pick}
-use Rattle.values.specs.declared.Value.{Value}
-use Rattle.values.specs.declared.Value.TheVariants.{Got, Bad}
+use Rattle.values.specs.Reading.{Value}
+use Rattle.values.specs.Reading.{Got, Bad}
 use Rattle.values.specs.Reading.{value_at}
 use Rattle.kinds.specs.Kinds.{LeftOut, never, reads, Field}
 use Rattle.layout.specs.Heads.{Heading, of_kind, no_kind}

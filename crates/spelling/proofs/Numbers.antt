@@ -5,6 +5,7 @@ use mathlib.Core.Bool.{Bool, true, false, ◌&&◌}
 use mathlib.Core.List.{List}
 use native.Mathlib.Nat.{mul-le-mul, le-mul_of_pos_right}
 use native.Mathlib.Omega.{arith}
+use lib.ListN.{length}
 use lib.Dec.{leb}
 use borrow.Author.Tests.{leb-true, le-leb, lt-leb, lt-ltb, le-ltb}
 use Rattle.std.specs.Char.{is_ascii_digit}
@@ -12,6 +13,7 @@ use Rattle.terms.proofs.Choice.{both}
 use Rattle.wire.specs.Number.{byte_at}
 use Rattle.grammar.specs.Machine.{tens, may_be, is_digit}
 use Rattle.grammar.proofs.Complete.{some_tens}
+use Rattle.grammar.proofs.From.{there}
 use Rattle.spelling.specs.Spelling.{Got, Bad}
 use Rattle.spelling.specs.Spelling.{digits_at}
 
@@ -23,6 +25,13 @@ digit_is s at e f g = rw (← e) (sym f ∙ g)
 pub digit_most : (s : List ℕ) (at : ℕ) → is_digit (byte_at s at) ≡ true → byte_at s at ≤ 57
 unfolding is_digit
 digit_most s at e = leb-true (byte_at s at) 57 (both (leb 48 (byte_at s at)) (leb (byte_at s at) 57) e).1
+
+-- a digit stands within the text
+pub digit_here : (s : List ℕ) (at : ℕ) → is_digit (byte_at s at) ≡ true → at < length s
+unfolding is_digit
+digit_here s at e =
+    let l = leb-true 48 (byte_at s at) (both (leb 48 (byte_at s at)) (leb (byte_at s at) 57) e).0 in
+    there s at (byte_at s at) (omega arith) refl
 
 tens_most : (k : ℕ) → k ≤ 2 → tens k ≤ 100
 unfolding tens
