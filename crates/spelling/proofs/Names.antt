@@ -7,7 +7,8 @@ use native.Mathlib.Omega.{arith}
 use lib.ListN.{length}
 use lib.Dec.{eqb, leb}
 use borrow.Author.Tests.{eqb-true, ne_eqb, leb-true}
-use Rattle.std.specs.Prelude.{Ok, Err}
+use Rattle.std.specs.Prelude.{Option, None, Some, Result, Ok, Err}
+use Rattle.std.specs.Result.{result_ok}
 use Rattle.terms.proofs.Choice.{pick_case, both, pairs}
 use Rattle.wire.specs.Number.{byte_at}
 use Rattle.numbers.specs.Blocks.{Bit, off, on, input, output, bit_code}
@@ -205,3 +206,20 @@ digits_have (Bad k) e = let z : ◌≡◌ {A = ℕ} 0 1 = cc in absurd (omega ar
 pub no_digits_there : (x : Digits) {k : ℕ} → Err k ≡ as_digits x → x ≡ Bad k
 no_digits_there (Got w n) e = let z : ◌≡◌ {A = ℕ} 0 1 = cc in absurd (omega arith)
 no_digits_there (Bad k) e = cc
+
+-- a name that is asked for as an option
+pub name_ok : (x : Named) {r : Result (ℕ × ℕ) ℕ} {v next : ℕ} → r ≡ as_named x → Some (v, next) ≡ result_ok r → x ≡ BitName v next
+name_ok (BitName w n) {r} {v} {next} e f =
+    let g : ◌≡◌ {A = Option (ℕ × ℕ)} (Some (v, next)) (Some (w, n)) = f ∙ ap result_ok e in
+    let p : ◌≡◌ {A = ℕ × ℕ} (v, next) (w, n) = cc in
+    let q = pairs p in
+    cc
+name_ok (NoName k) {r} {v} {next} e f =
+    let g : ◌≡◌ {A = Option (ℕ × ℕ)} (Some (v, next)) None = f ∙ ap result_ok e in
+    let z : ◌≡◌ {A = ℕ} 0 1 = cc in absurd (omega arith)
+
+pub name_off : (x : Named) {r : Result (ℕ × ℕ) ℕ} → r ≡ as_named x → None ≡ result_ok r → (k : ℕ) × (x ≡ NoName k)
+name_off (BitName w n) e f =
+    let g : ◌≡◌ {A = Option (ℕ × ℕ)} None (Some (w, n)) = f ∙ ap result_ok e in
+    let z : ◌≡◌ {A = ℕ} 0 1 = cc in absurd (omega arith)
+name_off (NoName k) e f = (k, refl)
