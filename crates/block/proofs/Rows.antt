@@ -9,8 +9,7 @@ use lib.Dec.{T, eqb, ltb, ltb→lt}
 use lib.ListN.{length, get_or, set, replicate, length-set}
 use lib.Seq.{get_or-set_same}
 use borrow.Author.Tests.{eqb-false, ne_eqb}
-use Rattle.wire.specs.declared.Num.{Num}
-use Rattle.wire.specs.declared.Num.TheVariants.{Got as NumGot, Bad, Cut}
+use Rattle.wire.specs.Number.{Num, Got as NumGot, Bad, Cut}
 use Rattle.wire.specs.Number.{number_at}
 use Rattle.numbers.specs.Blocks.{Content, nodes, nodes_of, nodes_in, code_of}
 use Rattle.kinds.specs.Kinds.{expression, kind_of, types_of, figure_for, mark_for}

@@ -7,10 +7,7 @@ ghost use Rattle.kinds.specs.Kinds.{types_of};
 ghost use Rattle.block.specs.Reading.{fields_at, block_at};
 ghost use Rattle.block.specs.Answers.{bare_row, field_more, row_of, brief_of};
 
-use nodes::Passed;
-use numbers::{
-    DIVISOR, EITHER_WAY, Number, OFF_TIME, PIN, PLUS_MINUS, RELATION, TIME, UNIT, WORD_PIN,
-};
+use numbers::{DIVISOR, EITHER_WAY, OFF_TIME, PIN, PLUS_MINUS, RELATION, TIME, UNIT, WORD_PIN};
 
 // The place after what was read, or a refusal and its place.
 #[derive(Clone, Copy)]
@@ -51,8 +48,8 @@ impl Row {
                 let before = if i == 0 { 0 } else { self.fields[i - 1] };
                 let n = numbers::read_number(s, at, ty, before, marks);
                 match n {
-                    Number::Fault(no, place) => bare(End::Fault(no, place)),
-                    Number::Got(v, next) => {
+                    Err(f) => bare(End::Fault(f.refusal.number(), f.at)),
+                    Ok((v, next)) => {
                         let mut fields = self.fields;
                         fields[i] = v;
                         Row {
@@ -73,8 +70,8 @@ fn read_expression(s: &[u8], at: usize, marks: &[u8; 200]) -> Row
 {
     let e = nodes::pass(s, at, nodes::MOST_DEEP, nodes::MOST_NODES, marks);
     match e {
-        Passed::Fault { no, at: place } => bare(End::Fault(no, place)),
-        Passed::Good { next, left } => Row {
+        Err(fault) => bare(End::Fault(fault.refusal.number(), fault.at)),
+        Ok((left, next)) => Row {
             fields: [0u32; 5],
             nodes: (nodes::MOST_NODES - left) as u32,
             end: End::Next(next),
@@ -169,8 +166,8 @@ pub fn read_block(s: &[u8], at: usize, marks: &[u8; 200]) -> Brief
 {
     let n = numbers::read_number(s, at, numbers::KIND_NUMBER, 0, marks);
     match n {
-        Number::Fault(no, place) => Brief::Fault(no, place),
-        Number::Got(v, next) => {
+        Err(f) => Brief::Fault(f.refusal.number(), f.at),
+        Ok((v, next)) => {
             let kind = v as u8;
             let row = read_row(s, next, kind, marks);
             let nodes = row.nodes;

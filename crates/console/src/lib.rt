@@ -35,10 +35,9 @@ pub fn scan_in(
     if inspection::is_late(elapsed, counts[0], counts[1]) {
         return calls::refuse_after(program, terms::TOO_FAR);
     }
-    let a = scanning::run(program, elapsed, bits, analogs, ticks, words, pins, outputs);
-    if !a.good {
+    let Some(a) = scanning::run(program, elapsed, bits, analogs, ticks, words, pins, outputs) else {
         return calls::refuse_after(program, terms::BAD_STATE);
-    }
+    };
     let stamp = Stamp {
         time: counts[0] + (elapsed as u64),
     };

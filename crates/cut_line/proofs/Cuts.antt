@@ -9,7 +9,7 @@ use lib.ListN.{length, length-append}
 use Rattle.terms.specs.Choice.{every}
 use Rattle.terms.specs.Refusals.{cut_number, astray, over_memory}
 use Rattle.terms.proofs.Choice.{never}
-use Rattle.wire.specs.declared.Num.TheVariants.{Bad, Cut}
+use Rattle.wire.specs.Number.{Bad, Cut}
 use Rattle.wire.specs.Number.{groups_at}
 use Rattle.wire.specs.Reading.{Read, got, fault}
 use Rattle.wire.specs.Facts.{IsCut, IsBad}

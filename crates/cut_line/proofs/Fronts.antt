@@ -9,8 +9,7 @@ use lib.Dec.{ltb}
 use lib.ListN.{length, length-append}
 use borrow.Author.Tests.{ltb-true, ltb-false}
 use Rattle.terms.specs.Choice.{pick}
-use Rattle.wire.specs.declared.Num.{Num}
-use Rattle.wire.specs.declared.Num.TheVariants.{Got, Bad, Cut}
+use Rattle.wire.specs.Number.{Num, Got, Bad, Cut}
 use Rattle.wire.specs.Number.{number_at}
 use Rattle.wire.proofs.Continued.{Kept, number_kept}
 use Rattle.order.specs.Order.{Expected, is_cut, Found, good, wrong, Item, Spot, count_of, found_of, Turn, goes, stops, ends}

@@ -70,7 +70,6 @@ use Rattle.expression.proofs.eval.Reads as expression_eval
 use Rattle.rules.proofs.apply.Reads as rules_apply
 use Rattle.running.proofs.turn.Reads as running_turn
 use Rattle.turns.proofs.turns.Reads as turns_turns
-use Rattle.trial.proofs.refused.Reads as trial_refused
 use Rattle.trial.proofs.try_program.Reads as trial_try_program
 use Rattle.scanning.proofs.run.Reads as scanning_run
 use Rattle.calls.proofs.refuse_after.Reads as calls_refuse_after
@@ -106,6 +105,9 @@ use Rattle.reading.proofs.move_down.Reads as reading_move_down
 use Rattle.keeping.proofs.feed_window.Reads as keeping_feed_window
 use Rattle.intake.proofs.go_on.Reads as intake_go_on
 use Rattle.io.proofs.buffer.Reads as io_buffer
+use Rattle.wire.proofs.Answered.{one_read}
+use Rattle.nodes.proofs.Answered.{one_node, one_pass}
+use Rattle.expression.proofs.Answered.{one_value}
 use Rattle.determinacy.proofs.Same.{same_two, kept_same, went_same, listed_same, formulas_same}
 
 -- any two answers that meet a contract on the same arguments are equal
@@ -181,7 +183,6 @@ pub record Determinacy : Type 0 where
   pub rules_apply : Determined rules_apply.Learnt
   pub running_turn : DeterminedWith (λ κ u. u.1.1.1.1.1.1.1.0.now) running_turn.Learnt
   pub turns_turns : DeterminedWith (λ κ u. arrays_from u.1.1.1.1.1) turns_turns.Learnt
-  pub trial_refused : Determined trial_refused.Learnt
   pub trial_try_program : DeterminedWith (λ κ u. arrays_from u.1.1.1.1) trial_try_program.Learnt
   pub scanning_run : DeterminedWith (λ κ u. columns_from u.1.1.1.1) scanning_run.Learnt
   pub calls_refuse_after : Determined calls_refuse_after.Learnt
@@ -270,9 +271,9 @@ all =
       loading_load_words = λ κ a x y u v h k. (refl, h ∙ sym k);
       copies_store_words = λ κ a x y u v h k. (refl, h ∙ sym k);
       copies_store_outputs = λ κ a x y u v h k. (refl, h ∙ sym k);
-      numbers_read_number = λ κ a x y u v h k. cc;
-      nodes_head = λ κ a x y u v h k. cc;
-      nodes_pass = λ κ a x y u v h k. cc;
+      numbers_read_number = λ κ a x y u v h k. one_read _ _ (h ∙ sym k);
+      nodes_head = λ κ a x y u v h k. one_node _ _ (h ∙ sym k);
+      nodes_pass = λ κ a x y u v h k. one_pass _ _ (h ∙ sym k);
       spelling_byte_at = λ κ a x y u v h k. cc;
       spelling_skip_spaces = λ κ a x y u v h k. cc;
       spelling_read_name = λ κ a x y u v h k. cc;
@@ -287,11 +288,10 @@ all =
       block_read_row = λ κ a x y u v h k. cc;
       block_read_block = λ κ a x y u v h k. cc;
       program_accept = λ κ a x y u v h k. cc;
-      expression_eval = λ κ a x y u v h k. cc;
+      expression_eval = λ κ a x y u v h k. one_value _ _ (h ∙ sym k);
       rules_apply = λ κ a x y u v h k. cc;
       running_turn = λ κ a x y u v h k. (h.0 ∙ sym k.0, h.1 ∙ sym k.1);
       turns_turns = λ κ a x y u v h k. (h.0 ∙ sym k.0, h.1 ∙ sym k.1);
-      trial_refused = λ κ a x y u v h k. cc;
       trial_try_program = λ κ a x y u v h k. (h.0 ∙ sym k.0, h.1 ∙ sym k.1);
       scanning_run = λ κ a x y u v h k. (h.0 ∙ sym k.0, h.1 ∙ sym k.1);
       calls_refuse_after = λ κ a x y u v h k. cc;

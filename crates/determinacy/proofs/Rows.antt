@@ -71,7 +71,6 @@ use Rattle.expression.specs.contracts.eval as expression_eval
 use Rattle.rules.specs.contracts.apply as rules_apply
 use Rattle.running.specs.contracts.turn as running_turn
 use Rattle.turns.specs.contracts.turns as turns_turns
-use Rattle.trial.specs.contracts.refused as trial_refused
 use Rattle.trial.specs.contracts.try_program as trial_try_program
 use Rattle.scanning.specs.contracts.run as scanning_run
 use Rattle.calls.specs.contracts.refuse_after as calls_refuse_after
@@ -106,6 +105,9 @@ use Rattle.reading.specs.contracts.told_by as reading_told_by
 use Rattle.reading.specs.contracts.move_down as reading_move_down
 use Rattle.keeping.specs.contracts.feed_window as keeping_feed_window
 use Rattle.intake.specs.contracts.go_on as intake_go_on
+use Rattle.wire.proofs.Answered.{one_read}
+use Rattle.nodes.proofs.Answered.{one_node, one_pass}
+use Rattle.expression.proofs.Answered.{one_value}
 use Rattle.determinacy.proofs.Same.{same_two, kept_same, went_same, listed_same, formulas_same}
 
 module _ {M : Type 1} {𝓤 : Ura M} (𝓛 : Logic 𝓤) where
@@ -236,13 +238,13 @@ module _ {M : Type 1} {𝓤 : Ura M} (𝓛 : Logic 𝓤) where
   copies_store_outputs_row = determined_with 𝓛 copies_store_outputs.ended (copies_store_outputs.clauses 𝓛) (λ κ u. u.1.1.0.now) (λ κs a g x y u v. two 𝓤 _ _ _ (λ h k. (refl, h ∙ sym k)))
 
   pub numbers_read_number_row : ent 𝓤 (emp 𝓤) (Determined 𝓛 numbers_read_number.ended (numbers_read_number.clauses 𝓛))
-  numbers_read_number_row = determined 𝓛 numbers_read_number.ended (numbers_read_number.clauses 𝓛) (λ κs a g x y u v. two 𝓤 _ _ _ (λ h k. cc))
+  numbers_read_number_row = determined 𝓛 numbers_read_number.ended (numbers_read_number.clauses 𝓛) (λ κs a g x y u v. two 𝓤 _ _ _ (λ h k. one_read _ _ (h ∙ sym k)))
 
   pub nodes_head_row : ent 𝓤 (emp 𝓤) (Determined 𝓛 nodes_head.ended (nodes_head.clauses 𝓛))
-  nodes_head_row = determined 𝓛 nodes_head.ended (nodes_head.clauses 𝓛) (λ κs a g x y u v. two 𝓤 _ _ _ (λ h k. cc))
+  nodes_head_row = determined 𝓛 nodes_head.ended (nodes_head.clauses 𝓛) (λ κs a g x y u v. two 𝓤 _ _ _ (λ h k. one_node _ _ (h ∙ sym k)))
 
   pub nodes_pass_row : ent 𝓤 (emp 𝓤) (Determined 𝓛 nodes_pass.ended (nodes_pass.clauses 𝓛))
-  nodes_pass_row = determined 𝓛 nodes_pass.ended (nodes_pass.clauses 𝓛) (λ κs a g x y u v. two 𝓤 _ _ _ (λ h k. cc))
+  nodes_pass_row = determined 𝓛 nodes_pass.ended (nodes_pass.clauses 𝓛) (λ κs a g x y u v. two 𝓤 _ _ _ (λ h k. one_pass _ _ (h ∙ sym k)))
 
   pub spelling_byte_at_row : ent 𝓤 (emp 𝓤) (Determined 𝓛 spelling_byte_at.ended (spelling_byte_at.clauses 𝓛))
   spelling_byte_at_row = determined 𝓛 spelling_byte_at.ended (spelling_byte_at.clauses 𝓛) (λ κs a g x y u v. two 𝓤 _ _ _ (λ h k. cc))
@@ -287,7 +289,7 @@ module _ {M : Type 1} {𝓤 : Ura M} (𝓛 : Logic 𝓤) where
   program_accept_row = determined 𝓛 program_accept.ended (program_accept.clauses 𝓛) (λ κs a g x y u v. two 𝓤 _ _ _ (λ h k. cc))
 
   pub expression_eval_row : ent 𝓤 (emp 𝓤) (Determined 𝓛 expression_eval.ended (expression_eval.clauses 𝓛))
-  expression_eval_row = determined 𝓛 expression_eval.ended (expression_eval.clauses 𝓛) (λ κs a g x y u v. two 𝓤 _ _ _ (λ h k. cc))
+  expression_eval_row = determined 𝓛 expression_eval.ended (expression_eval.clauses 𝓛) (λ κs a g x y u v. two 𝓤 _ _ _ (λ h k. one_value _ _ (h ∙ sym k)))
 
   pub rules_apply_row : ent 𝓤 (emp 𝓤) (Determined 𝓛 rules_apply.ended (rules_apply.clauses 𝓛))
   rules_apply_row = determined 𝓛 rules_apply.ended (rules_apply.clauses 𝓛) (λ κs a g x y u v. two 𝓤 _ _ _ (λ h k. cc))
@@ -297,9 +299,6 @@ module _ {M : Type 1} {𝓤 : Ura M} (𝓛 : Logic 𝓤) where
 
   pub turns_turns_row : ent 𝓤 (emp 𝓤) (DeterminedWith 𝓛 turns_turns.ended (turns_turns.clauses 𝓛) (λ κ u. arrays_from u.1.1.1.1.1))
   turns_turns_row = determined_with 𝓛 turns_turns.ended (turns_turns.clauses 𝓛) (λ κ u. arrays_from u.1.1.1.1.1) (λ κs a g x y u v. four 𝓤 _ _ _ _ _ (λ h h' k k'. (h ∙ sym k, h' ∙ sym k')))
-
-  pub trial_refused_row : ent 𝓤 (emp 𝓤) (Determined 𝓛 trial_refused.ended (trial_refused.clauses 𝓛))
-  trial_refused_row = determined 𝓛 trial_refused.ended (trial_refused.clauses 𝓛) (λ κs a g x y u v. two 𝓤 _ _ _ (λ h k. cc))
 
   pub trial_try_program_row : ent 𝓤 (emp 𝓤) (DeterminedWith 𝓛 trial_try_program.ended (trial_try_program.clauses 𝓛) (λ κ u. arrays_from u.1.1.1.1))
   trial_try_program_row = determined_with 𝓛 trial_try_program.ended (trial_try_program.clauses 𝓛) (λ κ u. arrays_from u.1.1.1.1) (λ κs a g x y u v. four 𝓤 _ _ _ _ _ (λ h h' k k'. (h ∙ sym k, h' ∙ sym k')))

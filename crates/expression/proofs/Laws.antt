@@ -12,11 +12,10 @@ use Rattle.numbers.specs.Blocks.{Bit, Expr, ref, inv, gate, nodes}
 use Rattle.wire.specs.Reading.{Read, got, fault, and_then}
 use Rattle.numbers.specs.Reading.{Marks}
 use Rattle.nodes.specs.Reading.{expr_at, passed}
-use Rattle.nodes.specs.declared.Passed.TheVariants.{Good, Fault}
+use Rattle.nodes.specs.Reading.{Good, Fault}
 use Rattle.nodes.proofs.Expressions.{few}
-use Rattle.expression.specs.Expression.{gate_of, skips_of, truth_table, skip_table, value, steps, valued, joined}
+use Rattle.expression.specs.Expression.{gate_of, skips_of, truth_table, skip_table, value, steps, valued, joined, Done, Broken}
 use Rattle.terms.specs.Bits.{digit}
-use Rattle.expression.specs.declared.Value.TheVariants.{Done, Broken}
 
 pub steps_nodes : (f : Bit → Bool) (t : Expr) → steps f t ≤ nodes t
 steps_nodes f (ref b) = omega arith

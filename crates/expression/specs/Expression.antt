@@ -1,12 +1,13 @@
 -- Document 01, "One scan", BL: what an expression comes to, and in how many steps.
-use Rattle.std.specs.Prelude.{Bool, true, false, not, ◌&&◌, ◌||◌, List, ℕ, ◌+◌, ◌-◌, ◌*◌, get_or, eqb}
+use Rattle.std.specs.Prelude.{Bool, true, false, not, ◌&&◌, ◌||◌, List, ℕ, ◌+◌, ◌-◌, ◌*◌, get_or, eqb, Result, Ok, Err}
 use Rattle.std.specs.Bool.{beq}
 use Rattle.terms.specs.Choice.{pick}
 use Rattle.terms.specs.Bits.{digit}
 use Rattle.numbers.specs.Blocks.{Bit, Expr, ref, inv, gate, nodes, bit_code}
 use Rattle.wire.specs.Reading.{Read, got, fault}
-use Rattle.expression.specs.declared.Value.{Value}
-use Rattle.expression.specs.declared.Value.TheVariants.{Done, Broken}
+use Rattle.terms.specs.declared.refusal.Fault.{Fault}
+use Rattle.terms.specs.Refusals.{number_of}
+use Rattle.expression.specs.declared.Value.{Value as ValueFound}
 
 -- "1 AND, 2 OR, 3 XOR, 4 NAND, 5 NOR (two parts)"
 unfoldable pub gate_of : ℕ → Bool → Bool → Bool
@@ -49,6 +50,11 @@ steps f (gate op a b) = pick (skips_of op (value f a)) (steps f a + 1) (steps f 
 abbrev pub bit_in : List Bool → Bit → Bool
 bit_in l b = get_or l (bit_code b) false
 
+-- the value of an expression, its steps, the place after it and the nodes left; or a refusal and its place
+pub data Value : Type 0 where
+  Done : Bool → ℕ → ℕ → ℕ → Value
+  Broken : ℕ → ℕ → Value
+
 -- the answers of the evaluator, of `left` nodes left
 abbrev pub valued : (Bit → Bool) → ℕ → Read Expr → Value
 valued f left (got t next) = Done (value f t) (steps f t) next (left - nodes t)
@@ -59,3 +65,8 @@ abbrev pub joined : ℕ → Bool → ℕ → (Bit → Bool) → ℕ → Read Exp
 joined op x p f left (got t next) =
     Done (gate_of op x (value f t)) (pick (skips_of op x) (p + 1) (p + steps f t + 1)) next (left - nodes t)
 joined op x p f left (fault n at) = Broken n at
+
+-- what an answer of the code says
+abbrev pub value_of_answer : Result ValueFound Fault → Value
+value_of_answer (Ok v) = Done v.on v.steps v.next v.left
+value_of_answer (Err f) = Broken (number_of f.refusal) f.at

@@ -2,10 +2,11 @@
 #![tactic(auto)]
 
 ghost use Rattle.std.specs.Prelude.{◌≡◌, ◌≤◌, ◌-◌};
-ghost use Rattle.nodes.specs.Reading.{expr_at, passed};
-ghost use Rattle.expression.specs.Expression.{gate_of, skips_of, truth_table, skip_table, bit_in, valued, joined};
+ghost use Rattle.nodes.specs.Reading.{expr_at, passed, passed_of_answer};
+ghost use Rattle.expression.specs.Expression.{gate_of, skips_of, truth_table, skip_table, bit_in, valued, joined, value_of_answer};
 
-use nodes::{Node, Passed};
+use nodes::Node;
+use terms::Fault;
 
 // What an operator of two parts makes of x and y, as bit 2x + y of a number.
 fn truths_of(op: u32) -> u32
@@ -48,19 +49,13 @@ fn skips(op: u32, x: bool) -> bool
     (skips_of(op) >> (x as u32)) % 2 == 1
 }
 
-// The value of an expression, its steps, the place after it and the nodes left; or a refusal and its place.
-#[derive(Drop)]
-pub enum Value {
-    Done {
-        on: bool,
-        steps: u32,
-        next: usize,
-        left: u8,
-    },
-    Broken {
-        no: u8,
-        at: usize,
-    },
+// The value of an expression, its steps, the place after it and the nodes left.
+#[derive(Clone, Copy, Debug, PartialEq, Eq)]
+pub struct Value {
+    pub on: bool,
+    pub steps: u32,
+    pub next: usize,
+    pub left: u8,
 }
 
 // The expression at a place, where `depth` levels and `left` nodes are left and `bits` has what each bit reference reads as.
@@ -72,63 +67,38 @@ pub fn eval(
     left: u8,
     bits: &[bool; 234],
     marks: &[u8; 200],
-) -> Value
-    ensures { result ≡ valued (bit_in bits.now) left (expr_at marks.now depth left s.now at) }
+) -> Result<Value, Fault>
+    ensures { value_of_answer result ≡ valued (bit_in bits.now) left (expr_at marks.now depth left s.now at) }
 {
-    let h = nodes::head(s, at, depth, left, marks);
-    match h {
-        Node::Stop { no, at: place } => Value::Broken { no, at: place },
-        Node::Leaf { r, next } => {
-            let k = r as usize;
-            Value::Done {
-                on: bits[k],
-                steps: 1,
-                next,
-                left: left - 1,
-            }
+    let (node, next) = nodes::head(s, at, depth, left, marks)?;
+    match node {
+        Node::Leaf(r) => Ok(Value {
+            on: bits[r as usize],
+            steps: 1,
+            next,
+            left: left - 1,
+        }),
+        Node::One => {
+            let a = eval(s, next, depth - 1, left - 1, bits, marks)?;
+            Ok(Value {
+                on: !a.on,
+                steps: a.steps + 1,
+                ..a
+            })
         }
-        Node::One { next } => {
-            let a = eval(s, next, depth - 1, left - 1, bits, marks);
-            match a {
-                Value::Done {
-                    on: x,
-                    steps: q,
-                    next: n1,
-                    left: l1,
-                } => Value::Done {
-                    on: !x,
-                    steps: q + 1,
-                    next: n1,
-                    left: l1,
-                },
-                Value::Broken { no, at: place } => Value::Broken { no, at: place },
-            }
-        }
-        Node::Two { op, next } => {
-            let a = part(s, next, depth - 1, left - 1, bits, marks);
-            match a {
-                Value::Done {
-                    on: x,
-                    steps: p,
-                    next: n1,
-                    left: l1,
-                } => second(s, n1, depth - 1, l1, bits, marks, op, x, p),
-                Value::Broken { no, at: place } => Value::Broken { no, at: place },
-            }
+        Node::Two(op) => {
+            let a = part(s, next, depth - 1, left - 1, bits, marks)?;
+            second(s, a.next, depth - 1, a.left, bits, marks, op, a.on, a.steps)
         }
     }
 }
 
 // Passes over a part: a leaf at once.
-fn skip(s: &[u8], at: usize, depth: u8, left: u8, marks: &[u8; 200]) -> Passed
-    ensures { result ≡ passed left (expr_at marks.now depth left s.now at) }
+fn skip(s: &[u8], at: usize, depth: u8, left: u8, marks: &[u8; 200]) -> Result<(u8, usize), Fault>
+    ensures { passed_of_answer result ≡ passed left (expr_at marks.now depth left s.now at) }
 {
-    let h = nodes::head(s, at, depth, left, marks);
-    if let Node::Leaf { r: _, next } = h {
-        return Passed::Good {
-            next,
-            left: left - 1,
-        };
+    if let Ok((Node::Leaf(_), next)) = nodes::head(s, at, depth, left, marks) {
+        return Ok((left - 1, next));
     }
     nodes::pass(s, at, depth, left, marks)
 }
@@ -145,55 +115,46 @@ fn second(
     op: u32,
     x: bool,
     p: u32,
-) -> Value
+) -> Result<Value, Fault>
     requires { p ≤ 255 }
-    ensures { result ≡ joined op x p (bit_in bits.now) left (expr_at marks.now depth left s.now at) }
+    ensures { value_of_answer result ≡ joined op x p (bit_in bits.now) left (expr_at marks.now depth left s.now at) }
 {
     if skips(op, x) {
-        let b = skip(s, at, depth, left, marks);
-        return match b {
-            Passed::Good { next, left: l } => Value::Done {
-                on: gate(op, x, false),
-                steps: p + 1,
-                next,
-                left: l,
-            },
-            Passed::Fault { no, at: place } => Value::Broken { no, at: place },
-        };
-    }
-    let b = part(s, at, depth, left, bits, marks);
-    match b {
-        Value::Done {
-            on: y,
-            steps: q,
+        let (left, next) = skip(s, at, depth, left, marks)?;
+        return Ok(Value {
+            on: gate(op, x, false),
+            steps: p + 1,
             next,
-            left: l,
-        } => Value::Done {
-            on: gate(op, x, y),
-            steps: p + q + 1,
-            next,
-            left: l,
-        },
-        Value::Broken { no, at: place } => Value::Broken { no, at: place },
+            left,
+        });
     }
+    let b = part(s, at, depth, left, bits, marks)?;
+    Ok(Value {
+        on: gate(op, x, b.on),
+        steps: p + b.steps + 1,
+        ..b
+    })
 }
 
 // A part of an operator: a leaf is answered at once, anything else is evaluated.
 #[cycle(eval_part_second)]
-fn part(s: &[u8], at: usize, depth: u8, left: u8, bits: &[bool; 234], marks: &[u8; 200]) -> Value
-    ensures { result ≡ valued (bit_in bits.now) left (expr_at marks.now depth left s.now at) }
+fn part(
+    s: &[u8],
+    at: usize,
+    depth: u8,
+    left: u8,
+    bits: &[bool; 234],
+    marks: &[u8; 200],
+) -> Result<Value, Fault>
+    ensures { value_of_answer result ≡ valued (bit_in bits.now) left (expr_at marks.now depth left s.now at) }
 {
-    let h = nodes::head(s, at, depth, left, marks);
-    match h {
-        Node::Leaf { r, next } => {
-            let k = r as usize;
-            Value::Done {
-                on: bits[k],
-                steps: 1,
-                next,
-                left: left - 1,
-            }
-        }
-        _ => eval(s, at, depth, left, bits, marks),
+    if let Ok((Node::Leaf(r), next)) = nodes::head(s, at, depth, left, marks) {
+        return Ok(Value {
+            on: bits[r as usize],
+            steps: 1,
+            next,
+            left: left - 1,
+        });
     }
+    eval(s, at, depth, left, bits, marks)
 }

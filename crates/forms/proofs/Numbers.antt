@@ -9,8 +9,7 @@ use lib.ListN.{get_or}
 use borrow.Author.Tests.{lt-ltb, leb-true}
 use Rattle.terms.proofs.Choice.{pick_case}
 use Rattle.terms.proofs.Every.{every_at}
-use Rattle.wire.specs.declared.Num.{Num}
-use Rattle.wire.specs.declared.Num.TheVariants.{Got, Bad, Cut}
+use Rattle.wire.specs.Number.{Num, Got, Bad, Cut}
 use Rattle.wire.specs.Number.{number_at, groups_of}
 use Rattle.wire.specs.Facts.{Stands, Bytes}
 use Rattle.wire.specs.Reading.{Read, got}

@@ -14,8 +14,7 @@ use Rattle.numbers.specs.Blocks.{Expr, ref, inv, gate, nodes, bit_code}
 use Rattle.numbers.specs.Types.{node_number, allowed, bit_ref}
 use Rattle.numbers.specs.Reading.{Marks, typed_at}
 use Rattle.numbers.proofs.References.{bit_code_lem, allowed_below}
-use Rattle.nodes.specs.declared.Node.{Node}
-use Rattle.nodes.specs.declared.Node.TheVariants.{One, Two}
+use Rattle.nodes.specs.Reading.{Node, One, Two}
 use Rattle.nodes.specs.Reading.{node_of, head_at, grow, expr_at}
 use Rattle.writing.specs.Expressions.{operator_first, depth, Proper}
 use Rattle.forms.proofs.Standing.{Numbered, numbered_both}

@@ -15,8 +15,7 @@ use Rattle.wire.specs.Facts.{Stands}
 use Rattle.wire.specs.Reading.{Read}
 use Rattle.numbers.specs.Blocks.{Expr, ref, inv, gate, nodes, bit_code}
 use Rattle.numbers.specs.Types.{node_number, allowed, excepted}
-use Rattle.nodes.specs.declared.Node.{Node}
-use Rattle.nodes.specs.declared.Node.TheVariants.{Leaf, One, Two}
+use Rattle.nodes.specs.Reading.{Node, Leaf, One, Two}
 use Rattle.nodes.specs.Reading.{head_at, grow, expr_at}
 use Rattle.nodes.proofs.Expressions.{step}
 use Rattle.writing.specs.Expressions.{operator_first, depth, bytes_of, Proper}

@@ -11,8 +11,7 @@ use Rattle.numbers.specs.Blocks.{Expr, ref, inv, gate, nodes}
 use Rattle.numbers.specs.Types.{bit_ref}
 use Rattle.numbers.specs.Reading.{Marks}
 use Rattle.nodes.specs.Reading.{head_at, grow, expr_at}
-use Rattle.nodes.specs.declared.Node.{Node}
-use Rattle.nodes.specs.declared.Node.TheVariants.{Leaf, One, Two, Stop}
+use Rattle.nodes.specs.Reading.{Node, Leaf, One, Two, Stop}
 use Rattle.nodes.proofs.Expressions.{sound, step}
 use Rattle.grammar.specs.Grammar.{bang, opening, closing}
 use Rattle.filling.specs.Filling.{Put}

@@ -71,10 +71,12 @@ fn write(
     requires { to + most_of_node * left < 2 ^ 64 }
     ensures { Writes level left (expr_at marks.now depth left s.now at) out.old to out.new result }
 {
-    let h = nodes::head(s, at, depth, left, marks);
-    match h {
-        Node::Stop { no: _, at: _ } => Written { next: at, left, to },
-        Node::Leaf { r, next } => {
+    let (node, next) = match nodes::head(s, at, depth, left, marks) {
+        Err(_) => return Written { next: at, left, to },
+        Ok(read) => read,
+    };
+    match node {
+        Node::Leaf(r) => {
             let e = names::put_name(out, to, r);
             Written {
                 next,
@@ -82,11 +84,11 @@ fn write(
                 to: e,
             }
         }
-        Node::One { next } => {
+        Node::One => {
             filling::put_byte(out, to, b'!');
             write(s, next, depth - 1, left - 1, marks, 3, out, to + 1)
         }
-        Node::Two { op, next } => {
+        Node::Two(op) => {
             let l = list_of(op);
             let asked = l < level;
             let from = put_if(out, to, asked, b'(');

@@ -10,7 +10,6 @@ ghost use Rattle.block.specs.Reading.{fields_at};
 ghost use Rattle.block.specs.Answers.{row_of};
 
 use block::End;
-use numbers::Number;
 
 // A number, and the place after it.
 #[derive(Drop)]
@@ -26,10 +25,10 @@ pub fn read_known(s: &[u8], at: usize, ty: u8, marks: &[u8; 200]) -> Known
 {
     let n = numbers::read_number(s, at, ty, 0, marks);
     match n {
-        Number::Got(number, next) => Known { number, next },
-        Number::Fault(_, place) => Known {
+        Ok((number, next)) => Known { number, next },
+        Err(fault) => Known {
             number: 0,
-            next: place,
+            next: fault.at,
         },
     }
 }

@@ -7,7 +7,9 @@ ghost use Rattle.image.specs.Image.{columns, image, image_of};
 ghost use Rattle.image.specs.Lent.{log_before, log_after, before, after};
 ghost use Rattle.image.specs.State.{fresh_state};
 ghost use Rattle.calls.specs.InPlace.{scanned_in, after_scan, taken_in, after_take};
-ghost use Rattle.lanwezik.specs.Answers.{acceptance, scanned, given, inputs_of, Formulas};
+ghost use Rattle.lanwezik.specs.Answers.{acceptance, scanned, given, expression, inputs_of, Formulas};
+
+use calls::{ScanAnswer, TakeAnswer};
 
 // Number of refusal and place, memory and step figure.
 #[repr(C)]
@@ -17,6 +19,19 @@ pub struct Acceptance {
     pub memory: u32,
     pub steps: u32,
     pub place: u64,
+}
+
+impl From<program::Acceptance> for Acceptance {
+    ghost from_gives = { λ a c. c ≡ acceptance a };
+
+    fn from(a: program::Acceptance) -> Acceptance {
+        Acceptance {
+            refusal: u32::from(a.refusal),
+            memory: a.memory,
+            steps: a.steps,
+            place: a.place as u64,
+        }
+    }
 }
 
 // The inputs of a scan: 32 bits, elapsed ticks, eight analog words.
@@ -39,6 +54,20 @@ pub struct Scanned {
     pub place: u64,
 }
 
+impl From<ScanAnswer> for Scanned {
+    ghost from_gives = { λ a c. c ≡ scanned a };
+
+    fn from(a: ScanAnswer) -> Scanned {
+        Scanned {
+            refusal: u32::from(a.refusal),
+            alarms: a.alarms,
+            steps: a.steps,
+            rises: a.rises,
+            place: a.place as u64,
+        }
+    }
+}
+
 // Number of refusal; 1 if an entry was found, and then its alarm number and time.
 #[repr(C)]
 #[derive(Drop)]
@@ -47,6 +76,19 @@ pub struct Given {
     pub found: u32,
     pub number: u32,
     pub time: u64,
+}
+
+impl From<TakeAnswer> for Given {
+    ghost from_gives = { λ a c. c ≡ given a };
+
+    fn from(a: TakeAnswer) -> Given {
+        Given {
+            refusal: u32::from(a.refusal),
+            found: u32::from(a.found),
+            number: u32::from(a.entry.number),
+            time: a.entry.stamp.time,
+        }
+    }
 }
 
 // Number of refusal, and how many node numbers there are; place; the node numbers, operator first, and zeros behind them.
@@ -59,16 +101,24 @@ pub struct Expression {
     pub nodes: [u8; 64],
 }
 
+impl From<formula::Expression> for Expression {
+    ghost from_gives = { λ a c. c ≡ expression a };
+
+    fn from(a: formula::Expression) -> Expression {
+        let nodes = a.nodes;
+        Expression {
+            refusal: u32::from(a.refusal),
+            count: u32::from(a.count),
+            place: a.place as u64,
+            nodes,
+        }
+    }
+}
+
 pub fn lanwezik_accept(program: &[u8]) -> Acceptance
     ensures { result ≡ acceptance (accepted program.now) }
 {
-    let a = program::accept(program);
-    Acceptance {
-        refusal: a.refusal as u32,
-        memory: a.memory,
-        steps: a.steps,
-        place: a.place as u64,
-    }
+    program::accept(program).into()
 }
 
 pub fn lanwezik_fresh_in(
@@ -101,7 +151,7 @@ pub fn lanwezik_scan_in(
         ≡ after_scan program.now (inputs_of inputs) (before counts times numbers ticks words pins outputs) }
 {
     let analogs = inputs.analogs;
-    let a = console::scan_in(
+    console::scan_in(
         program,
         counts,
         times,
@@ -113,14 +163,8 @@ pub fn lanwezik_scan_in(
         inputs.elapsed,
         inputs.bits,
         analogs,
-    );
-    Scanned {
-        refusal: a.refusal as u32,
-        alarms: a.alarms,
-        steps: a.steps,
-        rises: a.rises,
-        place: a.place as u64,
-    }
+    )
+    .into()
 }
 
 pub fn lanwezik_take_in(
@@ -136,26 +180,11 @@ pub fn lanwezik_take_in(
     ensures after { image (log_after counts times numbers) (columns ticks.exit.now words.exit.now pins.exit.now outputs.exit.now)
         ≡ after_take (image (log_before counts times numbers) (columns ticks.now words.now pins.now outputs.now)) }
 {
-    let a = console::take_in(counts, times, numbers, ticks, words, pins, outputs);
-    let e = a.entry;
-    let t = e.stamp;
-    Given {
-        refusal: a.refusal as u32,
-        found: a.found as u32,
-        number: e.number as u32,
-        time: t.time,
-    }
+    console::take_in(counts, times, numbers, ticks, words, pins, outputs).into()
 }
 
 pub fn lanwezik_formula(text: &[u8]) -> Expression
     ensures { Formulas text.now result }
 {
-    let a = formula::read_formula(text);
-    let list = a.nodes;
-    Expression {
-        refusal: a.refusal as u32,
-        count: a.count as u32,
-        place: a.place as u64,
-        nodes: list,
-    }
+    formula::read_formula(text).into()
 }

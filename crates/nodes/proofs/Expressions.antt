@@ -13,9 +13,8 @@ use Rattle.numbers.specs.Types.{node_number}
 use Rattle.wire.specs.Reading.{Read, got, fault, and_then}
 use Rattle.numbers.specs.Reading.{Marks, typed_at}
 use Rattle.nodes.specs.Reading.{node_of, head_at, grow, expr_at, passed}
-use Rattle.nodes.specs.declared.Node.{Node}
-use Rattle.nodes.specs.declared.Node.TheVariants.{Leaf, One, Two, Stop}
-use Rattle.nodes.specs.declared.Passed.TheVariants.{Good, Fault}
+use Rattle.nodes.specs.Reading.{Node, Leaf, One, Two, Stop}
+use Rattle.nodes.specs.Reading.{Good, Fault}
 
 abbrev Below : ℕ → Read ℕ → Type 0
 Below b (got v next) = v < b

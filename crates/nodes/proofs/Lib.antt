@@ -1,1 +1,2 @@
 pub mod Expressions
+pub mod Answered

@@ -2,14 +2,11 @@
 use Rattle.std.specs.Prelude.{List, [], ◌∷◌, Bool, true, not, ℕ, get_or, eqb}
 use Rattle.terms.specs.Choice.{pick}
 use Rattle.terms.specs.Refusals.{bad_number, cut_number, outside, astray}
-use Rattle.wire.specs.declared.Num.{Num}
-use Rattle.wire.specs.declared.Num.TheVariants.{Got, Bad, Cut}
+use Rattle.wire.specs.Number.{Num, Got, Bad, Cut}
 use Rattle.wire.specs.Number.{number_at}
 use Rattle.wire.specs.Reading.{Read, got, fault}
 use Rattle.numbers.specs.Blocks.{Bit, off, on, input, output, Word, analog, word_of, constant, refs_pass}
 use Rattle.numbers.specs.Types.{allowed, said_by}
-use Rattle.numbers.specs.declared.Number.{Number}
-use Rattle.numbers.specs.declared.Number.TheVariants.{Got as NumberGot, Fault as NumberFault}
 
 -- "Only after the whole is read come 3": the program is read once with every reference let through, and then again by the marks of its blocks.
 -- A block's mark is 0, not in the program; 1, in it; 2, in it and of a kind with a word.
@@ -43,8 +40,3 @@ judged m ty before at (Got v next) =
 -- the number of a type at a place, after the setting `before`
 unfoldable pub typed_at : Marks → ℕ → ℕ → List ℕ → ℕ → Read ℕ
 typed_at m ty before s at = judged m ty before at (number_at s at)
-
--- the same as the code answers it
-abbrev pub as_number : Read ℕ → Number
-as_number (got v next) = NumberGot v next
-as_number (fault n at) = NumberFault n at

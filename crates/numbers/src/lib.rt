@@ -3,9 +3,11 @@
 
 ghost use Rattle.std.specs.Prelude.{◌≡◌, ◌<◌, get_or};
 ghost use Rattle.numbers.specs.Types.{number_types, allowed, bit_ref, limits};
-ghost use Rattle.numbers.specs.Reading.{bit_marked, marked, typed_at, as_number};
+ghost use Rattle.numbers.specs.Reading.{bit_marked, marked, typed_at};
+ghost use Rattle.wire.specs.Reading.{read_of};
 
-use wire::Num;
+use terms::{Fault, Refusal};
+use wire::Unread;
 
 // The types of number, by the names of specs/Types.
 pub const PIN: u8 = 0;
@@ -126,30 +128,40 @@ fn is_marked(ty: u8, v: u32, marks: &[u8; 200]) -> bool
     true
 }
 
-// A number of the type asked for and the place after it, or a refusal and its place.
-#[derive(Drop)]
-pub enum Number {
-    Got(u32, usize),
-    Fault(u8, usize),
-}
-
-// The number of type ty at a place, after the setting `before`.
-pub fn read_number(s: &[u8], at: usize, ty: u8, before: u32, marks: &[u8; 200]) -> Number
+// The number of type ty at a place, after the setting `before`, and the place after it.
+pub fn read_number(
+    s: &[u8],
+    at: usize,
+    ty: u8,
+    before: u32,
+    marks: &[u8; 200],
+) -> Result<(u32, usize), Fault>
     requires { ty < number_types }
-    ensures { result ≡ as_number (typed_at marks.now ty before s.now at) }
+    ensures { read_of result ≡ typed_at marks.now ty before s.now at }
 {
-    let n = wire::number(s, at);
-    match n {
-        Num::Bad => Number::Fault(terms::BAD_NUMBER, at),
-        Num::Cut => Number::Fault(terms::CUT_NUMBER, at),
-        Num::Got(v, next) => {
-            if allow(ty, before, v) {
-                if is_marked(ty, v, marks) {
-                    return Number::Got(v, next);
-                }
-                return Number::Fault(terms::ASTRAY, at);
+    match wire::number(s, at) {
+        Err(Unread::BadlyFormed) => Err(Fault {
+            refusal: Refusal::BadNumber,
+            at,
+        }),
+        Err(Unread::Cut) => Err(Fault {
+            refusal: Refusal::CutNumber,
+            at,
+        }),
+        Ok((v, next)) => {
+            if !allow(ty, before, v) {
+                return Err(Fault {
+                    refusal: Refusal::Outside,
+                    at,
+                });
             }
-            Number::Fault(terms::OUTSIDE, at)
+            if !is_marked(ty, v, marks) {
+                return Err(Fault {
+                    refusal: Refusal::Astray,
+                    at,
+                });
+            }
+            Ok((v, next))
         }
     }
 }

@@ -9,15 +9,13 @@ use lib.Dec.{eqb, leb}
 use borrow.Author.Tests.{eqb-true, eqb-false, leb-true, leb-false, lt-ltb, le-ltb, ne_eqb}
 use Rattle.terms.specs.Choice.{pick}
 use Rattle.terms.specs.Refusals.{outside, astray}
-use Rattle.wire.specs.declared.Num.{Num}
-use Rattle.wire.specs.declared.Num.TheVariants.{Got, Bad, Cut}
+use Rattle.wire.specs.Number.{Num, Got, Bad, Cut}
 use Rattle.wire.specs.Number.{number_at}
 use Rattle.wire.specs.Reading.{Read, got, fault}
 use Rattle.numbers.specs.Blocks.{Expr, inv, gate, nodes}
 use Rattle.numbers.specs.Types.{node_number, allowed, excepted}
 use Rattle.numbers.specs.Reading.{Marks, marked, judged, typed_at}
-use Rattle.nodes.specs.declared.Node.{Node}
-use Rattle.nodes.specs.declared.Node.TheVariants.{Leaf, One, Two, Stop}
+use Rattle.nodes.specs.Reading.{Node, Leaf, One, Two, Stop}
 use Rattle.nodes.specs.Reading.{most_deep, most_nodes, node_of, head_at, grow, expr_at}
 use Rattle.order.specs.Order.{Expected, node, parts, count_of, too_deep, too_many, good, wrong, Item, Spot, item_at, found_of}
 use Rattle.order.proofs.Comes.{Weighs, weighs_join, Way, Halts, at_wrong, at_astray, at_both, Comes, reads, halts, nowhere, come_on, come_then, come_map}

@@ -11,8 +11,7 @@ use borrow.Author.Tests.{lt-ltb}
 use Rattle.terms.specs.Choice.{every}
 use Rattle.terms.proofs.Choice.{never, both, pick_case}
 use Rattle.terms.proofs.Every.{both_hold}
-use Rattle.wire.specs.declared.Num.{Num}
-use Rattle.wire.specs.declared.Num.TheVariants.{Got, Bad, Cut}
+use Rattle.wire.specs.Number.{Num, Got, Bad, Cut}
 use Rattle.wire.specs.Number.{number_at}
 use Rattle.wire.proofs.Laws.{takes}
 use Rattle.order.specs.Order.{Expected, Found, good, wrong, Item, Spot, count_of, found_of, Turn, goes, stops, ends}

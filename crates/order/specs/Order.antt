@@ -2,8 +2,7 @@
 -- What is expected from a place on is a stack: every good number takes its own off it, and puts on what it lets follow.
 use Rattle.std.specs.Prelude.{not, List, [], ◌∷◌, ◌++◌, map, ℕ, zero, suc, length, replicate, ltb, eqb}
 use Rattle.terms.specs.Choice.{pick}
-use Rattle.wire.specs.declared.Num.{Num}
-use Rattle.wire.specs.declared.Num.TheVariants.{Got, Bad, Cut}
+use Rattle.wire.specs.Number.{Num, Got, Bad, Cut}
 use Rattle.wire.specs.Number.{number_at}
 use Rattle.numbers.specs.Types.{pin, block_count, kind_number, alarm_count, node_number, allowed, content_of, setting_of}
 use Rattle.nodes.specs.Reading.{most_deep, most_nodes}

@@ -5,7 +5,7 @@ ghost use Rattle.std.specs.Prelude.{◌≡◌, [], ◌∷◌};
 ghost use Rattle.terms.specs.Bits.{packed};
 ghost use Rattle.place.specs.Places.{fresh_place, pinned, first_was, second_was, rises, falls, either_differs};
 
-#[derive(Clone, Copy)]
+#[derive(Clone, Copy, Debug, PartialEq, Eq)]
 pub struct Place {
     pub pins: u8,
     pub out: bool,

@@ -7,8 +7,7 @@ use mathlib.Core.List.{List, [], ◌∷◌}
 use native.Mathlib.Omega.{arith}
 use lib.Dec.{eqb, leb, ltb}
 use lib.ListN.{length}
-use Rattle.wire.specs.declared.Num.{Num}
-use Rattle.wire.specs.declared.Num.TheVariants.{Got, Bad, Cut}
+use Rattle.wire.specs.Number.{Num, Got, Bad, Cut}
 use Rattle.wire.specs.Number.{number_at}
 use Rattle.terms.specs.Refusals.{outside, astray}
 use Rattle.terms.proofs.Choice.{pick_case, when_case}
@@ -19,8 +18,7 @@ use Rattle.wire.specs.Reading.{Read, got, fault, and_then}
 use Rattle.numbers.specs.Reading.{Marks, marked, judged, typed_at}
 use Rattle.nodes.specs.Reading.{node_of, head_at, grow, expr_at}
 use Rattle.block.specs.Reading.{content_at, fields_at, block_at}
-use Rattle.nodes.specs.declared.Node.{Node}
-use Rattle.nodes.specs.declared.Node.TheVariants.{Leaf, One, Two, Stop}
+use Rattle.nodes.specs.Reading.{Node, Leaf, One, Two, Stop}
 use Rattle.program.specs.Program.{blocks_at, references_at, end_at, alarms_at, program_at}
 
 pub data Real (k : Marks) (n : ℕ) : Type 0 where

@@ -18,8 +18,7 @@ use Rattle.numbers.specs.Types.{pin, word_pin, kind_number, alarm_count, bit_ref
 use Rattle.numbers.specs.Reading.{Marks, typed_at}
 use Rattle.numbers.proofs.References.{bit_cases, word_cases, refs_cons}
 use Rattle.nodes.specs.Reading.{most_deep, most_nodes, head_at, grow, expr_at}
-use Rattle.nodes.specs.declared.Node.{Node}
-use Rattle.nodes.specs.declared.Node.TheVariants.{Leaf, One, Two, Stop}
+use Rattle.nodes.specs.Reading.{Node, Leaf, One, Two, Stop}
 use Rattle.kinds.specs.Kinds.{expression, types_of}
 use Rattle.block.specs.Reading.{content_at, fields_at, block_at}
 use Rattle.program.specs.Program.{references_at, end_at, alarms_at}

@@ -12,8 +12,7 @@ use Rattle.terms.specs.Refusals.{outside, astray}
 use Rattle.terms.proofs.Choice.{pick_case}
 use Rattle.terms.proofs.Every.{every_join}
 use Rattle.terms.proofs.Table.{both_left, both_right, at as entry}
-use Rattle.wire.specs.declared.Num.{Num}
-use Rattle.wire.specs.declared.Num.TheVariants.{Got, Bad, Cut}
+use Rattle.wire.specs.Number.{Num, Got, Bad, Cut}
 use Rattle.wire.specs.Number.{number_at}
 use Rattle.wire.specs.Reading.{Read, got, fault, and_then}
 use Rattle.numbers.specs.Blocks.{Bit, Expr, ref, inv, gate, Content, bit, number, tree, leaves, refs_pass, nodes}
@@ -21,7 +20,7 @@ use Rattle.numbers.specs.Types.{kind_count, node_number, allowed, bit_ref, conte
 use Rattle.numbers.specs.Reading.{Marks, bit_marked, word_marked, marked, judged, typed_at}
 use Rattle.numbers.proofs.References.{refs_cons, marked_leaf, marked_operator}
 use Rattle.nodes.specs.Reading.{most_deep, most_nodes, node_of, head_at, grow, expr_at}
-use Rattle.nodes.specs.declared.Node.{Node}
+use Rattle.nodes.specs.Reading.{Node}
 use Rattle.kinds.specs.Kinds.{expression, kind, kinds, kind_of, types_of}
 use Rattle.block.specs.Reading.{content_at, fields_at}
 use Rattle.program.proofs.Again.{same, stray, AgainOf, Never, again_then, again_map, again_both}

@@ -7,7 +7,6 @@ ghost use Rattle.program.specs.Acceptance.{accepted, refused};
 ghost use Rattle.program.specs.Answers.{blank_reading, blocks_read, end_of, program_read};
 
 use block::{Brief, End};
-use numbers::Number;
 
 // Memory and step figure of what was read, the mark of each block, and where it ends.
 #[derive(Drop)]
@@ -78,10 +77,10 @@ fn read_references(s: &[u8], start: usize, n: u32, marks: &[u8; 200]) -> End
     while 0 < left {
         let r = numbers::read_number(s, at, numbers::PIN, 0, marks);
         match r {
-            Number::Fault(no, place) => {
-                return End::Fault(no, place);
+            Err(f) => {
+                return End::Fault(f.refusal.number(), f.at);
             }
-            Number::Got(_, next) => {
+            Ok((_, next)) => {
                 at = next;
             }
         }
@@ -96,8 +95,8 @@ fn read_alarms(s: &[u8], start: usize, marks: &[u8; 200]) -> End
 {
     let c = numbers::read_number(s, start, numbers::ALARM_COUNT, 0, marks);
     match c {
-        Number::Fault(no, place) => End::Fault(no, place),
-        Number::Got(n, next) => {
+        Err(f) => End::Fault(f.refusal.number(), f.at),
+        Ok((n, next)) => {
             let r = read_references(s, next, n, marks);
             match r {
                 End::Fault(_, _) => r,
@@ -118,8 +117,8 @@ fn read_program(s: &[u8], marks: &[u8; 200]) -> Reading
 {
     let c = numbers::read_number(s, 0, numbers::BLOCK_COUNT, 0, marks);
     match c {
-        Number::Fault(no, place) => blank(no, place),
-        Number::Got(n, next) => {
+        Err(f) => blank(f.refusal.number(), f.at),
+        Ok((n, next)) => {
             let r = read_blocks(s, next, n, marks);
             let e = r.end;
             match e {

@@ -10,8 +10,7 @@ use lib.ListN.{length, drop, length-drop}
 use lib.Seq.{get_or-drop}
 use borrow.Author.Tests.{ltb-true, ltb-false, lt-ltb, le-ltb}
 use Rattle.terms.specs.Choice.{pick}
-use Rattle.wire.specs.declared.Num.{Num}
-use Rattle.wire.specs.declared.Num.TheVariants.{Got, Bad, Cut}
+use Rattle.wire.specs.Number.{Num, Got, Bad, Cut}
 use Rattle.wire.specs.Number.{byte_at, more, not_zero, groups_at, number_at}
 use Rattle.recording.specs.Recording.{Part, whole, bad, cut, and_next, short_of, shorts_at, scan_at}
 

@@ -8,8 +8,7 @@ use lib.Dec.{ltb}
 use lib.ListN.{length, length-append}
 use borrow.Author.Tests.{ltb-false, le-ltb}
 use Rattle.terms.specs.Choice.{pick}
-use Rattle.wire.specs.declared.Num.{Num}
-use Rattle.wire.specs.declared.Num.TheVariants.{Got, Bad, Cut}
+use Rattle.wire.specs.Number.{Num, Got, Bad, Cut}
 use Rattle.wire.specs.Number.{number_at}
 use Rattle.wire.proofs.Continued.{Kept, number_kept}
 use Rattle.recording.specs.Recording.{Part, whole, bad, cut, and_next, program_bytes, length_of, length_in, short_of, shorts_at, inputs_in, scan_at}

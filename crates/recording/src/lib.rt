@@ -7,7 +7,7 @@ ghost use Rattle.wire.specs.Number.{number_at};
 ghost use Rattle.recording.specs.Recording.{length_in, short_of, shorts_at, scan_at};
 ghost use Rattle.recording.specs.Answers.{head_in, short_in, no_shorts, shorts_in, no_scan, recorded_in};
 
-use wire::Num;
+use wire::Unread;
 
 // The longest program.
 pub const PROGRAM: usize = 16384;
@@ -26,7 +26,7 @@ pub fn read_head(s: &[u8]) -> Head
 {
     let n = wire::number(s, 0);
     match n {
-        Num::Got(v, at) => {
+        Ok((v, at)) => {
             let size = v as usize;
             if PROGRAM < size {
                 return Head::Bad;
@@ -36,8 +36,8 @@ pub fn read_head(s: &[u8]) -> Head
             }
             Head::Program(size, at)
         }
-        Num::Bad => Head::Bad,
-        Num::Cut => Head::Cut,
+        Err(Unread::BadlyFormed) => Head::Bad,
+        Err(Unread::Cut) => Head::Cut,
     }
 }
 
@@ -63,14 +63,14 @@ fn read_short(s: &[u8], at: usize) -> Short
 {
     let n = wire::number(s, at);
     match n {
-        Num::Got(v, next) => {
+        Ok((v, next)) => {
             if v < 65536 {
                 return Short::Got(v as u16, next);
             }
             Short::Bad
         }
-        Num::Bad => Short::Bad,
-        Num::Cut => Short::Cut,
+        Err(Unread::BadlyFormed) => Short::Bad,
+        Err(Unread::Cut) => Short::Cut,
     }
 }
 

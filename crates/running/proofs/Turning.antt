@@ -15,7 +15,7 @@ use Rattle.block.specs.Reading.{content_at, fields_at, block_at}
 use Rattle.block.specs.declared.End.TheVariants.{Next}
 use Rattle.nodes.proofs.Expressions.{few}
 use Rattle.expression.specs.Expression.{value, steps, valued}
-use Rattle.expression.specs.declared.Value.TheVariants.{Done, Broken}
+use Rattle.expression.specs.Expression.{Done, Broken}
 use Rattle.place.specs.declared.Place.{Place}
 use Rattle.switches.specs.Switches.{bl}
 use Rattle.rules.specs.Rules.{rule_of, ruled}

@@ -13,9 +13,8 @@ ghost use Rattle.rules.specs.Rows.{contents};
 ghost use Rattle.running.specs.Turns.{block_read, no_turn, turn_of, asked_after};
 
 use block::End;
-use expression::Value;
-use numbers::Number;
 use place::Place;
+use rules::Readings;
 
 // Marks the block that a word reference asks for its word.
 fn ask_word(r: u32, asked: &mut [u8; 200])
@@ -87,18 +86,13 @@ fn turn_bl(s: &[u8], at: usize, p: Place, bits: &[bool; 234], marks: &[u8; 200])
 {
     let v = expression::eval(s, at, nodes::MOST_DEEP, nodes::MOST_NODES, bits, marks);
     match v {
-        Value::Broken { no, at: place } => none(p, no, place),
-        Value::Done {
-            on,
-            steps,
-            next,
-            left,
-        } => Turned {
-            place: switches::bl(on, p),
-            steps,
-            memory: kinds::memory_of(0) + ((nodes::MOST_NODES - left) as u32),
+        Err(f) => none(p, f.refusal.number(), f.at),
+        Ok(v) => Turned {
+            place: switches::bl(v.on, p),
+            steps: v.steps,
+            memory: kinds::memory_of(0) + ((nodes::MOST_NODES - v.left) as u32),
             mark: kinds::mark_of(0),
-            end: End::Next(next),
+            end: End::Next(v.next),
         },
     }
 }
@@ -130,8 +124,13 @@ fn turn_row(
             if 9 <= kind {
                 ask_words(kind, fields, asked);
             }
+            let now = Readings {
+                bits,
+                words,
+                elapsed: e,
+            };
             Turned {
-                place: rules::apply(kind, fields, p, bits, words, e),
+                place: rules::apply(kind, fields, p, now),
                 steps: 1,
                 memory: kinds::memory_of(kind),
                 mark: kinds::mark_of(kind),
@@ -158,8 +157,8 @@ pub fn turn(
 {
     let n = numbers::read_number(s, at, numbers::KIND_NUMBER, 0, marks);
     match n {
-        Number::Fault(no, place) => none(p, no, place),
-        Number::Got(v, next) => {
+        Err(f) => none(p, f.refusal.number(), f.at),
+        Ok((v, next)) => {
             if v == 0 {
                 return turn_bl(s, next, p, bits, marks);
             }

@@ -15,7 +15,8 @@ use Rattle.program.proofs.FirstReading.{Good, good, accepted_good}
 use Rattle.image.specs.Image.{Columns, places_in, columns_of, at_most}
 use Rattle.image.specs.Lent.{SizedColumns}
 use Rattle.image.proofs.Images.{columns_again}
-use Rattle.trial.specs.Trial.{no_trial}
+use Rattle.std.specs.Prelude.{Option, Some, None}
+use Rattle.trial.specs.declared.Trial.{Trial}
 use Rattle.scanning.specs.Scan.{Inputs}
 use Rattle.scanning.specs.Loading.{stored_in}
 use Rattle.scanning.specs.Run.{places_after, steps_in, alarms_after, run_of, after_run}
@@ -29,7 +30,7 @@ module _ (s : List ℕ) (x : Inputs) (c : Columns) where
     pub read : program_at every_block s ≡ got program end
     pub answer :
         run_of s x (places_in c)
-        ≡ record { good = true; steps = steps_in x program (places_in c); alarms = alarms_after x program (places_in c) }
+        ≡ Some (record { steps = steps_in x program (places_in c); alarms = alarms_after x program (places_in c) })
     pub columns : SizedColumns c → every (at_most 1) c.outputs ≡ true → after_run s x c ≡ columns_of (places_after x program (places_in c))
 
   by_program : eqb (accepted s).refusal 0 ≡ true → Good s → Ran
@@ -47,22 +48,27 @@ module _ (s : List ℕ) (x : Inputs) (c : Columns) where
             ∙ stored_all_lem x p.blocks (places_in c) (length p.blocks));
       }
 
-  not_good : eqb (accepted s).refusal 0 ≡ false → (run_of s x (places_in c) ≡ no_trial) × (after_run s x c ≡ c)
+  not_good : eqb (accepted s).refusal 0 ≡ false → (run_of s x (places_in c) ≡ None) × (after_run s x c ≡ c)
   unfolding run_of after_run
   not_good e = (rw e, rw e)
 
-  pub ran : (run_of s x (places_in c)).good ≡ true → Ran
-  ran g = go (eqb (accepted s).refusal 0) refl
+  pub ran : {t : Trial} → run_of s x (places_in c) ≡ Some t → Ran
+  ran {t} g = go (eqb (accepted s).refusal 0) refl
     where
       go : (b : Bool) → eqb (accepted s).refusal 0 ≡ b → Ran
       go true e = by_program e (accepted_good s (eqb-true (accepted s).refusal 0 e))
-      go false e = let z : false ≡ true = rw (not_good e).0 at g in let u : ◌≡◌ {A = ℕ} 0 1 = cc in absurd (omega arith)
+      go false e = let z : ◌≡◌ {A = Option Trial} None (Some t) = rw (not_good e).0 at g in let u : ◌≡◌ {A = ℕ} 0 1 = cc in absurd (omega arith)
 
-  pub not_run : (run_of s x (places_in c)).good ≡ false → (eqb (accepted s).refusal 0 ≡ false) × (after_run s x c ≡ c)
+  pub not_run : run_of s x (places_in c) ≡ None → (eqb (accepted s).refusal 0 ≡ false) × (after_run s x c ≡ c)
   not_run g = go (eqb (accepted s).refusal 0) refl
     where
       go : (b : Bool) → eqb (accepted s).refusal 0 ≡ b → (b ≡ false) × (after_run s x c ≡ c)
       go true e =
-          let z : true ≡ false = rw (by_program e (accepted_good s (eqb-true (accepted s).refusal 0 e))).answer at g in
+          let z = sym (by_program e (accepted_good s (eqb-true (accepted s).refusal 0 e))).answer ∙ g in
           let u : ◌≡◌ {A = ℕ} 0 1 = cc in absurd (omega arith)
       go false e = (refl, (not_good e).1)
+
+  -- the answer of a run that was made
+  pub told : (r : Ran) {t : Trial} → run_of s x (places_in c) ≡ Some t
+      → t ≡ record { steps = steps_in x r.program (places_in c); alarms = alarms_after x r.program (places_in c) }
+  told r g = let h = sym g ∙ r.answer in cc

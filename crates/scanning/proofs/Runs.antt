@@ -10,8 +10,7 @@ use lib.ListN.{length, take}
 use borrow.Author.Tests.{ne_eqb}
 use Rattle.terms.proofs.Choice.{both}
 use Rattle.wire.specs.Number.{number_at}
-use Rattle.wire.specs.declared.Num.{Num}
-use Rattle.wire.specs.declared.Num.TheVariants.{Got, Bad, Cut}
+use Rattle.wire.specs.Number.{Num, Got, Bad, Cut}
 use Rattle.wire.specs.Reading.{Read, got, fault, and_then}
 use Rattle.numbers.specs.Blocks.{Bit, Block}
 use Rattle.numbers.specs.Types.{block_count, said_by, content_of}
@@ -30,7 +29,7 @@ use Rattle.image.specs.Image.{Columns, places_in}
 use Rattle.image.specs.Lent.{SizedColumns}
 use Rattle.turns.specs.Arrays.{turns_to, turn_steps, blocks_while}
 use Rattle.turns.proofs.Blocks.{while_all}
-use Rattle.trial.specs.Trial.{no_trial}
+use Rattle.std.specs.Prelude.{None}
 use Rattle.scanning.specs.Scan.{Inputs, scan_to, steps_to}
 use Rattle.scanning.specs.Loading.{loaded, loaded_first, tried_on, after_trial}
 use Rattle.scanning.specs.Run.{run_of, after_run}
@@ -74,12 +73,12 @@ module _ (s : List ℕ) (x : Inputs) (c : Columns) where
     pub answer : r ≡ run_of s x (places_in c)
     pub columns : d ≡ after_run s x c
 
-  not_run : eqb (accepted s).refusal 0 ≡ false → Runs no_trial c
+  not_run : eqb (accepted s).refusal 0 ≡ false → Runs None c
   unfolding run_of after_run
   not_run e = record { answer = rw e; columns = rw e }
 
   -- a program without a block count
-  pub no_count : {y z : ℕ} → typed_at every_block block_count 0 s 0 ≡ fault y z → Runs no_trial c
+  pub no_count : {y z : ℕ} → typed_at every_block block_count 0 s 0 ≡ fault y z → Runs None c
   unfolding accepted program_at
   no_count {y} {z} h =
       let f : program_at every_block s ≡ fault y z = rw h in

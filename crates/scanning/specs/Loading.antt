@@ -1,5 +1,5 @@
 -- What inputs and places are in the arrays of a scan, the trial on them, and what of them is stored back (ours).
-use Rattle.std.specs.Prelude.{Bool, false, List, ◌++◌, map, ℕ, pos, drop}
+use Rattle.std.specs.Prelude.{Bool, false, List, ◌++◌, map, ℕ, pos, drop, Option, is_some}
 use Rattle.terms.specs.Bits.{digit}
 use Rattle.place.specs.declared.Place.{Place}
 use Rattle.image.specs.Image.{Columns, columns, is_on, ticks_of, word_of_place, pins_of, output_of}
@@ -38,9 +38,9 @@ stored_in n qs c =
     (over n (map output_of qs) c.outputs)
 
 -- the trial of a program whose n blocks stand from `at` on, and the columns after it
-abbrev pub tried_on : ℕ → List ℕ → ℕ → Inputs → Columns → Trial
+abbrev pub tried_on : ℕ → List ℕ → ℕ → Inputs → Columns → Option Trial
 tried_on n s at x c = trial_of x.elapsed (loaded_first n x c) (after_count (first_blocks n) n s at)
 
 abbrev pub after_trial : ℕ → List ℕ → ℕ → Inputs → Columns → Columns
 after_trial n s at x c =
-    pick (tried_on n s at x c).good (stored_from n (turned_while x.elapsed (first_blocks n) n s at (loaded_first n x c)) c) c
+    pick (is_some (tried_on n s at x c)) (stored_from n (turned_while x.elapsed (first_blocks n) n s at (loaded_first n x c)) c) c

@@ -8,10 +8,9 @@ ghost use Rattle.scanning.specs.Scan.{inputs};
 ghost use Rattle.scanning.specs.Loading.{tried_on, after_trial};
 ghost use Rattle.scanning.specs.Run.{run_of, after_run};
 
-use numbers::Number;
 use trial::Trial;
 
-// Tries a program whose n blocks stand from `start` on, on a copy of its places, and stores them if it is accepted.
+// Tries a program whose n blocks stand from `start` on, on a copy of its places, and stores them if it is accepted; none if it is not.
 fn run_counted(
     program: &[u8],
     start: usize,
@@ -23,7 +22,7 @@ fn run_counted(
     words: &mut [i16; 200],
     pins: &mut [u8; 200],
     outputs: &mut [u8; 200],
-) -> Trial
+) -> Option<Trial>
     requires { n ≤ 200 }
     ensures value { result ≡ tried_on n program.now start (inputs elapsed bits analogs) (columns_before ticks words pins outputs) }
     ensures after { columns_after ticks words pins outputs
@@ -37,18 +36,15 @@ fn run_counted(
     loading::load_words(n, analogs, words, &mut w);
     copies::copy_ticks(n, ticks, &mut t);
     copies::copy_pins(n, pins, &mut q);
-    let r = trial::try_program(program, start, n, elapsed, &mut v, &mut w, &mut t, &mut q);
-    if !r.good {
-        return r;
-    }
+    let r = trial::try_program(program, start, n, elapsed, &mut v, &mut w, &mut t, &mut q)?;
     copies::copy_ticks(n, &t, ticks);
     copies::store_words(n, &w, words);
     copies::copy_pins(n, &q, pins);
     copies::store_outputs(n, &v, outputs);
-    r
+    Some(r)
 }
 
-// Runs a program once on the columns of the places.
+// Runs a program once on the columns of the places; none if it is not accepted, and then they stay as they are.
 pub fn run(
     program: &[u8],
     elapsed: u16,
@@ -58,7 +54,7 @@ pub fn run(
     words: &mut [i16; 200],
     pins: &mut [u8; 200],
     outputs: &mut [u8; 200],
-) -> Trial
+) -> Option<Trial>
     ensures value { result ≡ run_of program.now (inputs elapsed bits analogs) (places_in (columns_before ticks words pins outputs)) }
     ensures after { columns_after ticks words pins outputs
         ≡ after_run program.now (inputs elapsed bits analogs) (columns_before ticks words pins outputs) }
@@ -67,8 +63,8 @@ pub fn run(
     let every = [2u8; 200];
     let c = numbers::read_number(program, 0, numbers::BLOCK_COUNT, 0, &every);
     match c {
-        Number::Fault(_, _) => trial::refused(),
-        Number::Got(n, next) => run_counted(
+        Err(_) => None,
+        Ok((n, next)) => run_counted(
             program, next, n, elapsed, bits, analogs, ticks, words, pins, outputs,
         ),
     }

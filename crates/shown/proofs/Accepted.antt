@@ -10,8 +10,7 @@ use Rattle.numbers.specs.Types.{bit_ref}
 use Rattle.numbers.specs.Reading.{Marks}
 use Rattle.numbers.proofs.References.{bit_cases}
 use Rattle.nodes.specs.Reading.{head_at, grow, expr_at}
-use Rattle.nodes.specs.declared.Node.{Node}
-use Rattle.nodes.specs.declared.Node.TheVariants.{Leaf, One, Two, Stop}
+use Rattle.nodes.specs.Reading.{Node, Leaf, One, Two, Stop}
 use Rattle.nodes.proofs.Expressions.{Sound, sound}
 use Rattle.writing.specs.Expressions.{depth, InRange, Proper}
 

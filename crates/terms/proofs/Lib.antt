@@ -5,3 +5,4 @@ pub mod Sizes
 pub mod Table
 pub mod Words
 pub mod Bits
+pub mod Refusals

@@ -1,5 +1,7 @@
--- Document 01, "Numbers of refusal": the one table of them, for all definitions; `src/lib.rt` has the same names for the code.
+-- Document 01, "Numbers of refusal": the one table of them, for all definitions; the code has the same names.
 use Rattle.std.specs.Prelude.{ℕ}
+use Rattle.terms.specs.declared.refusal.Refusal.{Refusal}
+use Rattle.terms.specs.declared.refusal.Refusal.TheVariants.{BadNumber, Outside, Astray, OverMemory, BadState, TooFar, BadText, CutNumber, ShortBuffer}
 
 -- "a number is .. not shortest, or over three groups". Request L2: "Refusal 1 stays for a number that is badly formed"
 abbrev pub bad_number : ℕ
@@ -36,3 +38,15 @@ cut_number = 8
 -- Request L4: "12 at 0, the lent buffer is shorter than the exact result"
 abbrev pub short_buffer : ℕ
 short_buffer = 12
+
+-- the number that stands for each of the code's names
+abbrev pub number_of : Refusal → ℕ
+number_of BadNumber = bad_number
+number_of Outside = outside
+number_of Astray = astray
+number_of OverMemory = over_memory
+number_of BadState = bad_state
+number_of TooFar = too_far
+number_of BadText = bad_text
+number_of CutNumber = cut_number
+number_of ShortBuffer = short_buffer

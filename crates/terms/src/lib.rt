@@ -1,8 +1,12 @@
 // What every other crate speaks in: the numbers of refusal, and words carried as numbers.
 #![tactic(auto)]
 
+mod refusal;
+
 ghost use Rattle.std.specs.Prelude.{◌≡◌};
 ghost use Rattle.terms.specs.Words.{signed, hold_word};
+
+pub use refusal::{Fault, Refusal};
 
 // The numbers of refusal, by the names of specs/Refusals.
 pub const BAD_NUMBER: u8 = 1;

@@ -1,6 +1,7 @@
 -- The alarm word, one reference after the other: the first weighs 1, each next twice as much. Assumes nothing.
 use Prim.Native.Nat.{ℕ, suc, ◌+◌, ◌*◌, ◌-◌, ◌^◌, ◌<◌, ◌≤◌}
 use mathlib.Core.Path.{◌≡◌, refl, sym, ap, ◌∙◌}
+use Rattle.std.specs.Prelude.{Option, Some, None}
 use mathlib.Core.Bool.{Bool, true, false}
 use mathlib.Core.List.{List, ◌∷◌, map}
 use native.Mathlib.Omega.{arith}
@@ -17,8 +18,7 @@ use Rattle.numbers.specs.Reading.{Marks, typed_at}
 use Rattle.program.specs.Program.{references_at, end_at, alarms_at}
 use Rattle.expression.specs.Expression.{bit_in}
 use Rattle.terms.specs.Bits.{packed}
-use Rattle.trial.specs.declared.alarms.Alarmed.{Alarmed}
-use Rattle.trial.specs.Trial.{no_alarms, alarmed_of, to_end}
+use Rattle.trial.specs.Trial.{alarmed_of, to_end}
 
 -- one bit more
 heavier : (b : Bool) (word weight p : ℕ) → word + weight * (pick b 1 0 + 2 * p) ≡ word + pick b weight 0 + weight * 2 * p
@@ -30,9 +30,9 @@ light true word weight h = omega arith
 light false word weight h = omega arith
 
 -- what references that are left come to, with the word so far and the weight of the first of them
-abbrev pub more : ℕ → ℕ → List Bool → Read (List Bit) → Alarmed
-more word weight bits (got rs end) = record { good = true; word = word + weight * packed (map (bit_in bits) rs) }
-more word weight bits (fault n at) = no_alarms
+abbrev pub more : ℕ → ℕ → List Bool → Read (List Bit) → Option ℕ
+more word weight bits (got rs end) = Some (word + weight * packed (map (bit_in bits) rs))
+more word weight bits (fault n at) = None
 
 more_begin : (bits : List Bool) (r : Read (List Bit)) → alarmed_of bits r ≡ more 0 1 bits r
 more_begin bits (got rs end) = let e : packed (map (bit_in bits) rs) ≡ 0 + 1 * packed (map (bit_in bits) rs) = omega arith in rw (← e)
@@ -61,17 +61,17 @@ module _ (word weight : ℕ) (bits : List Bool) (k : Marks) (s : List ℕ) (at :
       ap (λ (n : ℕ). more word weight bits (to_end s (references_at k n s at))) d
       ∙ rw e (more_ref word weight bits s (bit_ref v) (references_at k (left - 1) s next))
 
-  more_fault : {left x y : ℕ} → 0 < left → typed_at k pin 0 s at ≡ fault x y → more word weight bits (to_end s (references_at k left s at)) ≡ no_alarms
+  more_fault : {left x y : ℕ} → 0 < left → typed_at k pin 0 s at ≡ fault x y → more word weight bits (to_end s (references_at k left s at)) ≡ None
   unfolding references_at
   more_fault {left} h e =
       let d : left ≡ suc (left - 1) = omega arith in
       ap (λ (n : ℕ). more word weight bits (to_end s (references_at k n s at))) d ∙ rw e
 
-  more_over : {left : ℕ} → left ≡ 0 → at < length s → more word weight bits (to_end s (references_at k left s at)) ≡ no_alarms
+  more_over : {left : ℕ} → left ≡ 0 → at < length s → more word weight bits (to_end s (references_at k left s at)) ≡ None
   unfolding references_at end_at
   more_over z h = rw (z, lt-ltb _ _ h)
 
-  more_end : {left : ℕ} → left ≡ 0 → length s ≤ at → more word weight bits (to_end s (references_at k left s at)) ≡ record { good = true; word = word }
+  more_end : {left : ℕ} → left ≡ 0 → length s ≤ at → more word weight bits (to_end s (references_at k left s at)) ≡ Some word
   unfolding references_at end_at
   more_end z h = rw (z, le-ltb _ _ h, mul-zero weight, add-zero word)
 
@@ -100,13 +100,13 @@ module _ (bits : List Bool) (k : Marks) (n : ℕ) (s : List ℕ) (start : ℕ) w
           sum = w.sum ∙ more_got word weight bits k s at p e;
         }
 
-    pub walk_fault : {x y : ℕ} → 0 < left → typed_at k pin 0 s at ≡ fault x y → no_alarms ≡ alarmed_of bits (to_end s (references_at k n s start))
+    pub walk_fault : {x y : ℕ} → 0 < left → typed_at k pin 0 s at ≡ fault x y → None ≡ alarmed_of bits (to_end s (references_at k n s start))
     walk_fault p e = sym (w.sum ∙ more_fault word weight bits k s at p e)
 
-    pub walk_over : left ≡ 0 → at < length s → no_alarms ≡ alarmed_of bits (to_end s (references_at k n s start))
+    pub walk_over : left ≡ 0 → at < length s → None ≡ alarmed_of bits (to_end s (references_at k n s start))
     walk_over z h = sym (w.sum ∙ more_over word weight bits k s at z h)
 
-    pub walk_end : left ≡ 0 → length s ≤ at → record { good = true; word = word } ≡ alarmed_of bits (to_end s (references_at k n s start))
+    pub walk_end : left ≡ 0 → length s ≤ at → Some word ≡ alarmed_of bits (to_end s (references_at k n s start))
     walk_end z h = sym (w.sum ∙ more_end word weight bits k s at z h)
 
     -- a word of at most 32 bits
@@ -125,6 +125,6 @@ module _ (bits : List Bool) (k : Marks) (s : List ℕ) (at : ℕ) where
   unfolding alarms_at
   counted e = rw e
 
-  pub uncounted : {x y : ℕ} → typed_at k alarm_count 0 s at ≡ fault x y → no_alarms ≡ alarmed_of bits (alarms_at k s at)
+  pub uncounted : {x y : ℕ} → typed_at k alarm_count 0 s at ≡ fault x y → None ≡ alarmed_of bits (alarms_at k s at)
   unfolding alarms_at
   uncounted e = rw e

@@ -4,16 +4,8 @@ ghost use Rattle.terms.specs.Choice.{pick};
 ghost use Rattle.numbers.specs.Types.{bit_ref};
 ghost use Rattle.program.specs.Program.{references_at, alarms_at};
 ghost use Rattle.expression.specs.Expression.{bit_in};
-ghost use Rattle.trial.specs.Trial.{no_alarms, alarmed_of, to_end};
+ghost use Rattle.trial.specs.Trial.{alarmed_of, to_end};
 
-use numbers::Number;
-
-// The alarm word, if the alarms can be read.
-#[derive(Drop)]
-pub struct Alarmed {
-    pub good: bool,
-    pub word: u32,
-}
 
 // The weight of an alarm's bit if the reference reads as on, else nothing.
 fn weigh(bits: &[bool; 234], r: u32, weight: u64) -> u64
@@ -24,55 +16,40 @@ fn weigh(bits: &[bool; 234], r: u32, weight: u64) -> u64
     if bits[k] { weight } else { 0 }
 }
 
-// No alarm word.
-fn unread() -> Alarmed
-    ensures { result ≡ no_alarms }
-{
-    Alarmed {
-        good: false,
-        word: 0,
-    }
-}
-
-// The word of n bit references from `start` to the end of the program, the first lowest.
-fn references(s: &[u8], start: usize, n: u32, bits: &[bool; 234], marks: &[u8; 200]) -> Alarmed
+// The word of n bit references from `start` to the end of the program, the first lowest; none if they cannot be read.
+fn references(s: &[u8], start: usize, n: u32, bits: &[bool; 234], marks: &[u8; 200]) -> Option<u32>
     requires { n ≤ 32 }
     ensures { result ≡ alarmed_of bits.now (to_end s.now (references_at marks.now n s.now start)) }
 {
     let mut word: u64 = 0;
     let mut weight: u64 = 1;
     let mut at = start;
-    let mut left = n;
-    while 0 < left {
+    for _ in 0..n {
         let r = numbers::read_number(s, at, numbers::PIN, 0, marks);
         match r {
-            Number::Fault(_, _) => {
-                return unread();
+            Err(_) => {
+                return None;
             }
-            Number::Got(v, next) => {
+            Ok((v, next)) => {
                 word += weigh(bits, v, weight);
                 weight *= 2;
                 at = next;
             }
         }
-        left -= 1;
     }
     if at < s.len() {
-        return unread();
+        return None;
     }
-    Alarmed {
-        good: true,
-        word: word as u32,
-    }
+    Some(word as u32)
 }
 
-// The alarms at a place, to the end of the program.
-pub fn alarms(s: &[u8], at: usize, bits: &[bool; 234], marks: &[u8; 200]) -> Alarmed
+// The alarm word of the alarms at a place, to the end of the program; none if they cannot be read.
+pub fn alarms(s: &[u8], at: usize, bits: &[bool; 234], marks: &[u8; 200]) -> Option<u32>
     ensures { result ≡ alarmed_of bits.now (alarms_at marks.now s.now at) }
 {
     let c = numbers::read_number(s, at, numbers::ALARM_COUNT, 0, marks);
     match c {
-        Number::Fault(_, _) => unread(),
-        Number::Got(n, next) => references(s, next, n, bits, marks),
+        Err(_) => None,
+        Ok((n, next)) => references(s, next, n, bits, marks),
     }
 }

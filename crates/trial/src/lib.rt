@@ -7,42 +7,24 @@ ghost use Rattle.std.specs.Prelude.{◌++◌, ◌≡◌, ◌≤◌, drop, replic
 ghost use Rattle.program.specs.Program.{after_count};
 ghost use Rattle.program.specs.Trial.{first_blocks};
 ghost use Rattle.turns.specs.Arrays.{arrays_before, arrays_after, turned_while};
-ghost use Rattle.trial.specs.Trial.{no_trial, trial_of};
+ghost use Rattle.trial.specs.Trial.{trial_of};
 
 // Marks the first n blocks as being there.
 fn mark_first(n: u32, marks: &mut [u8; 200])
     requires { n ≤ 200 }
     ensures { marks.new ≡ replicate n 2 ++ drop n marks.old }
 {
-    let m = &marks[..];
-    let count = n as usize;
-    let mut i: usize = 0;
-    while i < count {
-        marks[i] = 2;
-        i += 1;
-    }
+    marks[..n as usize].fill(2);
 }
 
-// Whether a program is accepted, and if it is, its steps and its alarm word.
+// The steps and the alarm word of a program that is accepted.
 #[derive(Drop)]
 pub struct Trial {
-    pub good: bool,
     pub steps: u32,
     pub alarms: u32,
 }
 
-// The trial of a program that is not accepted.
-pub fn refused() -> Trial
-    ensures { result ≡ no_trial }
-{
-    Trial {
-        good: false,
-        steps: 0,
-        alarms: 0,
-    }
-}
-
-// Tries a program whose n blocks stand from `start` on.
+// Tries a program whose n blocks stand from `start` on; none if it is not accepted.
 pub fn try_program(
     program: &[u8],
     start: usize,
@@ -52,7 +34,7 @@ pub fn try_program(
     words: &mut [i16; 208],
     ticks: &mut [u32; 200],
     pins: &mut [u8; 200],
-) -> Trial
+) -> Option<Trial>
     requires { n ≤ 200 }
     ensures value { result ≡ trial_of elapsed (arrays_before bits words ticks pins) (after_count (first_blocks n) n program.now start) }
     ensures after { arrays_after bits words ticks pins
@@ -60,17 +42,10 @@ pub fn try_program(
 {
     let mut marks = [0u8; 200];
     mark_first(n, &mut marks);
-    let r = turns::turns(program, start, n, elapsed, &marks, bits, words, ticks, pins);
-    if !r.good {
-        return refused();
-    }
-    let a = alarms::alarms(program, r.next, bits, &marks);
-    if !a.good {
-        return refused();
-    }
-    Trial {
-        good: true,
+    let r = turns::turns(program, start, n, elapsed, &marks, bits, words, ticks, pins)?;
+    let alarms = alarms::alarms(program, r.next, bits, &marks)?;
+    Some(Trial {
         steps: r.steps,
-        alarms: a.word,
-    }
+        alarms,
+    })
 }

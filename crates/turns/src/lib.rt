@@ -16,28 +16,24 @@ fn all_answer(n: u32, asked: &[u8; 200], own: &[u8; 200]) -> bool
 {
     // counted, and both looked at whatever they are, so that the compiler looks at many at once
     let mut silent: u32 = 0;
-    let count = n as usize;
-    let mut i: usize = 0;
-    while i < count {
+    for i in 0..(n as usize) {
         let asks = (asked[i] != 0) as u8;
         let wordless = (own[i] != 2) as u8;
         if asks + wordless == 2 {
             silent += 1;
         }
-        i += 1;
     }
     silent == 0
 }
 
-// Whether n blocks were read and pass their trial, their steps, and the place after them.
+// The steps of blocks that were read and pass their trial, and the place after them.
 #[derive(Drop)]
 pub struct Ran {
-    pub good: bool,
     pub steps: u32,
     pub next: usize,
 }
 
-// The turns of n blocks from `start` on, in ascending number; `marks` says which blocks may be referred to.
+// The turns of n blocks from `start` on, in ascending number; none if they cannot be read or do not pass their trial. `marks` says which blocks may be referred to.
 pub fn turns(
     s: &[u8],
     start: usize,
@@ -48,7 +44,7 @@ pub fn turns(
     words: &mut [i16; 208],
     ticks: &mut [u32; 200],
     pins: &mut [u8; 200],
-) -> Ran
+) -> Option<Ran>
     requires { n ≤ 200 }
     ensures value { result ≡ ran_of elapsed (arrays_before bits words ticks pins) (blocks_at marks.now n s.now start) }
     ensures after { arrays_after bits words ticks pins ≡ turned_while elapsed marks.now n s.now start (arrays_before bits words ticks pins) }
@@ -58,9 +54,7 @@ pub fn turns(
     let mut steps: u32 = 0;
     let mut memory: u32 = 0;
     let mut at = start;
-    let count = n as usize;
-    let mut i: usize = 0;
-    while i < count {
+    for i in 0..(n as usize) {
         let w = words[i + 8];
         let p = Place {
             pins: pins[i],
@@ -72,11 +66,7 @@ pub fn turns(
         let end = t.end;
         match end {
             End::Fault(_, _) => {
-                return Ran {
-                    good: false,
-                    steps: 0,
-                    next: 0,
-                };
+                return None;
             }
             End::Next(next) => {
                 let q = t.place;
@@ -91,13 +81,11 @@ pub fn turns(
                 at = next;
             }
         }
-        i += 1;
     }
     let light = memory <= kinds::MEMORY_LIMIT;
-    let answered = all_answer(n, &asked, &own);
-    Ran {
-        good: if answered { light } else { false },
-        steps,
-        next: at,
+    if all_answer(n, &asked, &own) && light {
+        Some(Ran { steps, next: at })
+    } else {
+        None
     }
 }

@@ -9,8 +9,7 @@ use lib.Dec.{ltb}
 use lib.ListN.{length, get_or-append, length-append}
 use borrow.Author.Tests.{ltb-true, ltb-false, lt-ltb}
 use Rattle.terms.specs.Choice.{pick}
-use Rattle.wire.specs.declared.Num.{Num}
-use Rattle.wire.specs.declared.Num.TheVariants.{Got, Bad, Cut}
+use Rattle.wire.specs.Number.{Num, Got, Bad, Cut}
 use Rattle.wire.specs.Number.{byte_at, more, not_zero, groups_at, number_at}
 use Rattle.wire.proofs.Laws.{takes}
 

@@ -7,8 +7,7 @@ use native.Mathlib.Nat.{pow-suc, one-le-pow, pow-zero}
 use lib.ListN.{length}
 use lib.Dec.{ltb}
 use borrow.Author.Tests.{ltb-true, ltb-false, lt-ltb, le-ltb}
-use Rattle.wire.specs.declared.Num.{Num}
-use Rattle.wire.specs.declared.Num.TheVariants.{Got, Bad, Cut}
+use Rattle.wire.specs.Number.{Num, Got, Bad, Cut}
 use Rattle.wire.specs.Number.{byte_at, more, not_zero, groups_at, groups_of}
 use Rattle.wire.specs.Facts.{Stands, Bytes, NumberFacts}
 use Rattle.terms.proofs.Choice.{pick_case}

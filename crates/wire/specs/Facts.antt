@@ -1,6 +1,6 @@
 -- What holds of numbers, once over the number of groups k.
 use Rattle.std.specs.Prelude.{ℕ, ◌+◌, ◌^◌, ◌<◌, ◌≤◌, ◌≡◌, ◌↔◌, List, [], ◌∷◌, length}
-use Rattle.wire.specs.declared.Num.TheVariants.{Got, Bad, Cut}
+use Rattle.wire.specs.Number.{Got, Bad, Cut}
 use Rattle.wire.specs.Number.{byte_at, groups_at, groups_of}
 
 -- the bytes l stand in s at a place

@@ -1,8 +1,14 @@
 -- Document 01, "Program bytes", the first paragraph: numbers.
-use Rattle.std.specs.Prelude.{ℕ, zero, suc, ◌+◌, ◌*◌, ◌%◌, ◌/◌, List, [], ◌∷◌, length, get_or, ltb}
+use Rattle.std.specs.Prelude.{ℕ, zero, suc, ◌+◌, ◌*◌, ◌%◌, ◌/◌, List, [], ◌∷◌, length, get_or, ltb, Result, Ok, Err}
 use Rattle.terms.specs.Choice.{pick}
-use Rattle.wire.specs.declared.Num.{Num}
-use Rattle.wire.specs.declared.Num.TheVariants.{Got, Bad, Cut}
+use Rattle.wire.specs.declared.Unread.{Unread}
+use Rattle.wire.specs.declared.Unread.TheVariants.{BadlyFormed, Cut as CutShort}
+
+-- what stands at a place: a number and the place after it; a badly formed number; or one that the end of the data cuts
+pub data Num : Type 0 where
+  Got : ℕ → ℕ → Num
+  Bad : Num
+  Cut : Num
 
 abbrev pub byte_at : List ℕ → ℕ → ℕ
 byte_at s at = get_or s at 0
@@ -31,6 +37,12 @@ groups_at (suc k) least s at =
 -- "A number is one to three groups"
 unfoldable pub number_at : List ℕ → ℕ → Num
 number_at s at = groups_at 3 0 s at
+
+-- the same as the code answers it
+abbrev pub as_num : Num → Result (ℕ × ℕ) Unread
+as_num (Got v next) = Ok (v, next)
+as_num Bad = Err BadlyFormed
+as_num Cut = Err CutShort
 
 -- "in shortest form": how v is written in at most k groups
 unfoldable pub groups_of : ℕ → ℕ → List ℕ

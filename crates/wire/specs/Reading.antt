@@ -1,5 +1,7 @@
 -- Document 01, "Numbers of refusal": "The program is read front to back; the first fault in reading order is reported".
-use Rattle.std.specs.Prelude.{ℕ, ◌≡◌}
+use Rattle.std.specs.Prelude.{ℕ, ◌≡◌, Result, Ok, Err}
+use Rattle.terms.specs.declared.refusal.Fault.{Fault}
+use Rattle.terms.specs.Refusals.{number_of}
 
 -- what is read and the place after it, or the number of refusal and its place
 pub data Read (A : Type 0) : Type 0 where
@@ -18,3 +20,8 @@ pub data IsGot {A : Type 0} (r : Read A) : Type 0 where
 abbrev pub next_of : {A : Type 0} → Read A → ℕ
 next_of (got a next) = next
 next_of (fault n at) = at
+
+-- what an answer of the code says: an Ok has what was read and the place after it, an Err a fault
+abbrev pub read_of : {A : Type 0} → Result (A × ℕ) Fault → Read A
+read_of (Ok (a, next)) = got a next
+read_of (Err f) = fault (number_of f.refusal) f.at

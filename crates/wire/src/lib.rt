@@ -2,61 +2,53 @@
 #![tactic(auto)]
 
 ghost use Rattle.std.specs.Prelude.{◌≡◌, ◌<◌};
-ghost use Rattle.wire.specs.Number.{groups_at, more, not_zero, number_at};
+ghost use Rattle.wire.specs.Number.{as_num, groups_at, more, not_zero, number_at};
 ghost use Rattle.wire.specs.Facts.{NumberFacts};
 
 // The least last group after the first.
 const NOT_ZERO: u8 = 1;
 
-// What stands at a place: a number and the place after it; a badly formed number; or one that the end of the data cuts.
-#[derive(Drop)]
-pub enum Num {
-    Got(u32, usize),
-    Bad,
+// Why no number is read: it is badly formed, or the end of the data cuts it.
+#[derive(Clone, Copy, Debug, PartialEq, Eq)]
+pub enum Unread {
+    BadlyFormed,
     Cut,
 }
 
 // The number whose first group is `low`, where its other groups, one or two, stand from `at` on.
-fn longer(s: &[u8], at: usize, low: u32) -> Num
+#[tactic(auto, unfolding(crate::specs::Number::groups_at))]
+fn longer(s: &[u8], at: usize, low: u32) -> Result<(u32, usize), Unread>
     requires { low < 128 }
-    ensures { result ≡ more low (groups_at 2 not_zero s.now at) }
+    ensures { result ≡ as_num (more low (groups_at 2 not_zero s.now at)) }
 {
-    if s.len() <= at {
-        return Num::Cut;
-    }
-    let b = s[at];
+    let b = *s.get(at).ok_or(Unread::Cut)?;
     if b < 128 {
         if b < NOT_ZERO {
-            return Num::Bad; // as 81 00
+            return Err(Unread::BadlyFormed); // as 81 00
         }
-        return Num::Got(low + (b as u32) * 128, at + 1);
+        return Ok((low + (b as u32) * 128, at + 1));
     }
-    if s.len() <= at + 1 {
-        return Num::Cut;
+    let c = *s.get(at + 1).ok_or(Unread::Cut)?;
+    if 128 <= c {
+        return Err(Unread::BadlyFormed); // over three groups
     }
-    let c = s[at + 1];
-    if c < 128 {
-        if c < NOT_ZERO {
-            return Num::Bad; // as 81 80 00
-        }
-        let high = ((b % 128) as u32) + (c as u32) * 128;
-        return Num::Got(low + high * 128, at + 2);
+    if c < NOT_ZERO {
+        return Err(Unread::BadlyFormed); // as 81 80 00
     }
-    Num::Bad
+    let high = ((b % 128) as u32) + (c as u32) * 128;
+    Ok((low + high * 128, at + 2))
 }
 
-// The number at a place.
-pub fn number(s: &[u8], at: usize) -> Num
-    ensures { result ≡ number_at s.now at }
+// The number at a place, and the place after it.
+#[tactic(auto, unfolding(crate::specs::Number::groups_at, crate::specs::Number::number_at))]
+pub fn number(s: &[u8], at: usize) -> Result<(u32, usize), Unread>
+    ensures { result ≡ as_num (number_at s.now at) }
 {
-    if at < s.len() {
-        let a = s[at];
-        if a < 128 {
-            return Num::Got(a as u32, at + 1);
-        }
-        return longer(s, at + 1, (a % 128) as u32);
+    let a = *s.get(at).ok_or(Unread::Cut)?;
+    if a < 128 {
+        return Ok((a as u32, at + 1));
     }
-    Num::Cut
+    longer(s, at + 1, (a % 128) as u32)
 }
 
 // The facts of numbers, as a theorem: it does nothing when called.

@@ -21,7 +21,7 @@ use Rattle.numbers.specs.Reading.{Marks, bit_marked, marked, typed_at}
 use Rattle.numbers.proofs.References.{marked_operator, marked_leaf}
 use Rattle.nodes.specs.Reading.{head_at, expr_at}
 use Rattle.nodes.proofs.Expressions.{step}
-use Rattle.nodes.specs.declared.Node.TheVariants.{Leaf, One, Two}
+use Rattle.nodes.specs.Reading.{Leaf, One, Two}
 use Rattle.writing.specs.Expressions.{operator_first, depth, bytes_of, InRange, Proper}
 
 -- bytes that stand one after the other

@@ -6,12 +6,12 @@ use Rattle.block.proofs.read_expression.Goals as goal
 
 pub overflow_sub-result : goal.overflow_sub-result
 overflow_sub-result c =
-    (tree_full _ _ _ (expr_whole _ _ _ _ _ (sym c.pass-e.ensures ∙ c.in-Good.is))).0
+    (tree_full _ _ _ (expr_whole _ _ _ _ _ (sym c.in-Ok.ensures))).0
 
-pub returns-in-Fault : goal.returns-in-Fault
-returns-in-Fault c =
-    c.bare.ensures ∙ tree_stopped _ _ _ (expr_fault _ _ _ _ _ (sym c.pass-e.ensures ∙ c.in-Fault.is))
+pub returns-in-Err : goal.returns-in-Err
+returns-in-Err c =
+    rw c.number.ensures at c.bare.ensures ∙ tree_stopped _ _ _ (expr_fault _ _ _ _ _ (sym c.in-Err.ensures))
 
-pub returns-in-Good : goal.returns-in-Good
-returns-in-Good c =
-    (tree_full _ _ _ (expr_whole _ _ _ _ _ (sym c.pass-e.ensures ∙ c.in-Good.is))).1
+pub returns-in-Ok : goal.returns-in-Ok
+returns-in-Ok c =
+    (tree_full _ _ _ (expr_whole _ _ _ _ _ (sym c.in-Ok.ensures))).1

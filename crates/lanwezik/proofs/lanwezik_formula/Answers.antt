@@ -4,4 +4,4 @@ use Rattle.lanwezik.proofs.lanwezik_formula.Goals as goal
 
 pub returns : goal.returns
 returns c =
-    formulas _ c.read_formula-a.ensures
+    rw c.into.ensures (formulas _ c.read_formula.ensures)

@@ -6,9 +6,9 @@ use Rattle.nodes.proofs.+pass.Given as goal
 abbrev pub decreases-pass : goal.decreases-pass
 decreases-pass l = l.depth
 
-abbrev pub invariant-loop-no : goal.invariant-loop-no
-invariant-loop-no l =
+abbrev pub invariant-loop-node : goal.invariant-loop-node
+invariant-loop-node l =
     (l.levels ≤ l.depth) × (passed l.left (expr_at l.marks l.depth l.left l.s l.at) ≡ passed l.nodes (expr_at l.marks l.levels l.nodes l.s l.from))
 
-abbrev pub decreases-loop-no : goal.decreases-loop-no
-decreases-loop-no l = l.levels
+abbrev pub decreases-loop-node : goal.decreases-loop-node
+decreases-loop-node l = l.levels

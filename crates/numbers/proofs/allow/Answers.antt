@@ -1,6 +1,5 @@
 -- `numbers::allow` meets its contract: each return is the definition under the tests that led there.
 use mathlib.Core.Path.{sym}
-use borrow.Author.Rules.{rules}
 use borrow.Author.Tests.{lt-ltb, le-ltb, lt-leb, le-leb, eq-eqb, ne_eqb}
 use Rattle.numbers.specs.Types.{allowed, excepted}
 use Rattle.numbers.proofs.References.{leb_not}

@@ -1,5 +1,4 @@
 -- `numbers::is_bit_marked` meets its contract, by the ranges of a bit reference.
-use borrow.Author.Rules.{rules}
 use Rattle.numbers.proofs.References.{bit_below, bit_above}
 use Rattle.numbers.proofs.is_bit_marked.Goals as goal
 

@@ -1,7 +1,6 @@
 -- `numbers::is_marked` meets its contract, by the type of the number and the ranges of a reference.
 use mathlib.Core.Path.{◌∙◌}
 use native.Mathlib.Omega.{arith}
-use borrow.Author.Rules.{rules}
 use Rattle.numbers.proofs.References.{word_plain, word_of_lem, marked_pin, marked_word, marked_operator, marked_leaf, marked_other}
 use Rattle.numbers.proofs.is_marked.Goals as goal
 

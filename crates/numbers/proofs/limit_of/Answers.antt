@@ -1,6 +1,5 @@
 -- `numbers::limit_of` meets its contract: the definition's list, entry by entry.
 use mathlib.Core.Path.{refl}
-use borrow.Author.Rules.{rules}
 use Rattle.terms.proofs.Table.{last}
 use Rattle.numbers.proofs.limit_of.Goals as goal
 

@@ -1,43 +1,43 @@
 -- `numbers::read_number` meets its contract: the number's answer, and then the two tests.
-use mathlib.Core.Path.{◌∙◌, sym}
-use borrow.Author.Rules.{rules}
+use Rattle.std.proofs.Common.{◌∙◌, sym}
+use Rattle.wire.proofs.Answered.{num_is, num_unread}
 use Rattle.numbers.specs.Reading.{typed_at}
 use Rattle.numbers.proofs.References.{allowed_below}
 use Rattle.numbers.proofs.read_number.Goals as goal
 
 pub is_marked-requires : goal.is_marked-requires
 is_marked-requires c =
-    allowed_below _ c.args.before _ (sym c.allow.ensures ∙ c.if-allow.true)
+    allowed_below _ c.args.before _ (sym c.allow.ensures ∙ c.if-not-allow.false)
 
-pub returns-then-is_marked : goal.returns-then-is_marked
+pub returns-then-not-allow : goal.returns-then-not-allow
 unfolding typed_at
-returns-then-is_marked c =
+returns-then-not-allow c =
+    rw (num_is _ (sym c.number.ensures ∙ c.in-Ok.is), sym c.allow.ensures ∙ c.if-not-allow.true)
+
+pub returns-then-not-is_marked : goal.returns-then-not-is_marked
+unfolding typed_at
+returns-then-not-is_marked c =
     rw (
-      sym c.number-n.ensures ∙ c.in-Got.is,
-      sym c.allow.ensures ∙ c.if-allow.true,
-      sym c.is_marked.ensures ∙ c.if-is_marked.true,
+      num_is _ (sym c.number.ensures ∙ c.in-Ok.is),
+      sym c.allow.ensures ∙ c.if-not-allow.false,
+      sym c.is_marked.ensures ∙ c.if-not-is_marked.true,
     )
 
-pub returns-then-allow : goal.returns-then-allow
+pub returns-else-not-is_marked : goal.returns-else-not-is_marked
 unfolding typed_at
-returns-then-allow c =
+returns-else-not-is_marked c =
     rw (
-      sym c.number-n.ensures ∙ c.in-Got.is,
-      sym c.allow.ensures ∙ c.if-allow.true,
-      sym c.is_marked.ensures ∙ c.if-is_marked.false,
+      num_is _ (sym c.number.ensures ∙ c.in-Ok.is),
+      sym c.allow.ensures ∙ c.if-not-allow.false,
+      sym c.is_marked.ensures ∙ c.if-not-is_marked.false,
     )
 
-pub returns-in-Bad : goal.returns-in-Bad
+pub returns-in-Err-BadlyFormed : goal.returns-in-Err-BadlyFormed
 unfolding typed_at
-returns-in-Bad c =
-    rw (sym c.number-n.ensures ∙ c.in-Bad.is)
+returns-in-Err-BadlyFormed c =
+    rw (num_unread _ (sym c.number.ensures ∙ c.in-Err-BadlyFormed.is) c.in-Err-BadlyFormed.field-0-is)
 
-pub returns-in-Cut : goal.returns-in-Cut
+pub returns-in-Err-Cut : goal.returns-in-Err-Cut
 unfolding typed_at
-returns-in-Cut c =
-    rw (sym c.number-n.ensures ∙ c.in-Cut.is)
-
-pub returns-else-allow : goal.returns-else-allow
-unfolding typed_at
-returns-else-allow c =
-    rw (sym c.number-n.ensures ∙ c.in-Got.is, sym c.allow.ensures ∙ c.if-allow.false)
+returns-in-Err-Cut c =
+    rw (num_unread _ (sym c.number.ensures ∙ c.in-Err-Cut.is) c.in-Err-Cut.field-0-is)

@@ -1,6 +1,5 @@
 -- `rules::turn_cn` meets its contract: the letters of CN at its fields.
 use lib.Dec.{lit<}
-use borrow.Author.Rules.{rules}
 use mir.Syntax.{w16}
 use mir.Facts.{to_z-of_z}
 use Rattle.numbers.specs.Types.{content_of}
@@ -11,50 +10,20 @@ use Rattle.rules.proofs.Fields.{below}
 use Rattle.terms.proofs.Words.{small_fits}
 use Rattle.rules.proofs.turn_cn.Goals as goal
 
-pub bounds-f-0 : goal.bounds-f-0
-unfolding content_of contents kind_of rule_of ruled
-bounds-f-0 c =
-    search rules
-
 pub bit-i-requires : goal.bit-i-requires
 unfolding content_of contents kind_of rule_of ruled
 bit-i-requires c =
     below (types_of 7) _ c.requires 0 (lit< tt)
-
-pub bounds-f-1 : goal.bounds-f-1
-unfolding content_of contents kind_of rule_of ruled
-bounds-f-1 c =
-    search rules
 
 pub bit-c-requires : goal.bit-c-requires
 unfolding content_of contents kind_of rule_of ruled
 bit-c-requires c =
     below (types_of 7) _ c.requires 1 (lit< tt)
 
-pub bounds-f-2 : goal.bounds-f-2
-unfolding content_of contents kind_of rule_of ruled
-bounds-f-2 c =
-    search rules
-
 pub overflow_cast-preset : goal.overflow_cast-preset
 unfolding content_of contents kind_of rule_of ruled
 overflow_cast-preset c =
     small_fits (below (types_of 7) _ c.requires 2 (lit< tt))
-
-pub cn-requires : goal.cn-requires
-unfolding content_of contents kind_of rule_of ruled
-cn-requires c =
-    search rules
-
-pub pack-requires : goal.pack-requires
-unfolding content_of contents kind_of rule_of ruled
-pack-requires c =
-    search rules
-
-pub pin-requires : goal.pin-requires
-unfolding content_of contents kind_of rule_of ruled
-pin-requires c =
-    search rules
 
 pub returns : goal.returns
 unfolding content_of contents kind_of rule_of ruled

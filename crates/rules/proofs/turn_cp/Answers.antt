@@ -1,6 +1,5 @@
 -- `rules::turn_cp` meets its contract: the letters of CP at its fields.
 use lib.Dec.{lit<}
-use borrow.Author.Rules.{rules}
 use mir.Syntax.{w16}
 use mir.Facts.{to_z-of_z}
 use Rattle.numbers.specs.Types.{content_of}
@@ -10,55 +9,20 @@ use Rattle.rules.specs.Rows.{contents}
 use Rattle.rules.proofs.Fields.{here, below, word_allowed}
 use Rattle.rules.proofs.turn_cp.Goals as goal
 
-pub bounds-f-0 : goal.bounds-f-0
-unfolding content_of contents kind_of rule_of ruled
-bounds-f-0 c =
-    search rules
-
 pub bit-i-requires : goal.bit-i-requires
 unfolding content_of contents kind_of rule_of ruled
 bit-i-requires c =
     below (types_of 9) _ c.requires 0 (lit< tt)
-
-pub bounds-f-2 : goal.bounds-f-2
-unfolding content_of contents kind_of rule_of ruled
-bounds-f-2 c =
-    search rules
 
 pub word-a-requires : goal.word-a-requires
 unfolding content_of contents kind_of rule_of ruled
 word-a-requires c =
     word_allowed _ _ (here (types_of 9) _ c.requires 2 (lit< tt))
 
-pub bounds-f-3 : goal.bounds-f-3
-unfolding content_of contents kind_of rule_of ruled
-bounds-f-3 c =
-    search rules
-
 pub word-b-requires : goal.word-b-requires
 unfolding content_of contents kind_of rule_of ruled
 word-b-requires c =
     word_allowed _ _ (here (types_of 9) _ c.requires 3 (lit< tt))
-
-pub bounds-f-1 : goal.bounds-f-1
-unfolding content_of contents kind_of rule_of ruled
-bounds-f-1 c =
-    search rules
-
-pub cp-requires : goal.cp-requires
-unfolding content_of contents kind_of rule_of ruled
-cp-requires c =
-    search rules
-
-pub pack-requires : goal.pack-requires
-unfolding content_of contents kind_of rule_of ruled
-pack-requires c =
-    search rules
-
-pub pin-requires : goal.pin-requires
-unfolding content_of contents kind_of rule_of ruled
-pin-requires c =
-    search rules
 
 pub returns : goal.returns
 unfolding content_of contents kind_of rule_of ruled

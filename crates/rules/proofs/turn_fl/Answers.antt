@@ -1,6 +1,5 @@
 -- `rules::turn_fl` meets its contract: the letters of FL at its fields.
 use lib.Dec.{lit<}
-use borrow.Author.Rules.{rules}
 use native.Mathlib.Nat.{le_of_suc-le-suc}
 use Rattle.numbers.specs.Types.{content_of}
 use Rattle.kinds.specs.Kinds.{kind_of, types_of}
@@ -9,30 +8,10 @@ use Rattle.rules.specs.Rows.{contents}
 use Rattle.rules.proofs.Fields.{here, below, off_allowed}
 use Rattle.rules.proofs.turn_fl.Goals as goal
 
-pub bounds-f-0 : goal.bounds-f-0
-unfolding content_of contents kind_of rule_of ruled
-bounds-f-0 c =
-    search rules
-
 pub bit-i-requires : goal.bit-i-requires
 unfolding content_of contents kind_of rule_of ruled
 bit-i-requires c =
     below (types_of 6) _ c.requires 0 (lit< tt)
-
-pub bounds-f-1 : goal.bounds-f-1
-unfolding content_of contents kind_of rule_of ruled
-bounds-f-1 c =
-    search rules
-
-pub bounds-f-2 : goal.bounds-f-2
-unfolding content_of contents kind_of rule_of ruled
-bounds-f-2 c =
-    search rules
-
-pub bounds-f-3 : goal.bounds-f-3
-unfolding content_of contents kind_of rule_of ruled
-bounds-f-3 c =
-    search rules
 
 pub fl-requires : goal.fl-requires
 unfolding content_of contents kind_of rule_of ruled
@@ -40,16 +19,6 @@ fl-requires c = (
   le_of_suc-le-suc (below (types_of 6) _ c.requires 2 (lit< tt)),
   (le_of_suc-le-suc (below (types_of 6) _ c.requires 3 (lit< tt)), off_allowed _ _ (here (types_of 6) _ c.requires 3 (lit< tt))),
 )
-
-pub pack-requires : goal.pack-requires
-unfolding content_of contents kind_of rule_of ruled
-pack-requires c =
-    search rules
-
-pub pin-requires : goal.pin-requires
-unfolding content_of contents kind_of rule_of ruled
-pin-requires c =
-    search rules
 
 pub returns : goal.returns
 unfolding content_of contents kind_of rule_of ruled

@@ -1,7 +1,6 @@
 -- `rules::turn_og` meets its contract: the letters of OG at its fields.
 use lib.Dec.{lit<}
 use native.Mathlib.Omega.{arith}
-use borrow.Author.Rules.{rules}
 use mir.Syntax.{w16}
 use mir.Facts.{to_z-of_z}
 use Rattle.numbers.specs.Types.{content_of}
@@ -12,65 +11,25 @@ use Rattle.rules.proofs.Fields.{here, below, word_allowed, divisor_allowed}
 use Rattle.terms.proofs.Words.{not_zero_lem}
 use Rattle.rules.proofs.turn_og.Goals as goal
 
-pub bounds-f-0 : goal.bounds-f-0
-unfolding content_of contents kind_of rule_of ruled
-bounds-f-0 c =
-    search rules
-
 pub bit-i-requires : goal.bit-i-requires
 unfolding content_of contents kind_of rule_of ruled
 bit-i-requires c =
     below (types_of 10) _ c.requires 0 (lit< tt)
-
-pub bounds-f-1 : goal.bounds-f-1
-unfolding content_of contents kind_of rule_of ruled
-bounds-f-1 c =
-    search rules
 
 pub overflow_cast-f : goal.overflow_cast-f
 unfolding content_of contents kind_of rule_of ruled
 overflow_cast-f c =
     omega (arith, below (types_of 10) _ c.requires 1 (lit< tt))
 
-pub signed-a-requires : goal.signed-a-requires
-unfolding content_of contents kind_of rule_of ruled
-signed-a-requires c =
-    search rules
-
-pub bounds-f-2 : goal.bounds-f-2
-unfolding content_of contents kind_of rule_of ruled
-bounds-f-2 c =
-    search rules
-
 pub overflow_cast-f-2 : goal.overflow_cast-f-2
 unfolding content_of contents kind_of rule_of ruled
 overflow_cast-f-2 c =
     omega (arith, below (types_of 10) _ c.requires 2 (lit< tt))
 
-pub signed-b-requires : goal.signed-b-requires
-unfolding content_of contents kind_of rule_of ruled
-signed-b-requires c =
-    search rules
-
-pub bounds-f-3 : goal.bounds-f-3
-unfolding content_of contents kind_of rule_of ruled
-bounds-f-3 c =
-    search rules
-
 pub overflow_cast-f-3 : goal.overflow_cast-f-3
 unfolding content_of contents kind_of rule_of ruled
 overflow_cast-f-3 c =
     omega (arith, below (types_of 10) _ c.requires 3 (lit< tt))
-
-pub signed-c-requires : goal.signed-c-requires
-unfolding content_of contents kind_of rule_of ruled
-signed-c-requires c =
-    search rules
-
-pub bounds-f-4 : goal.bounds-f-4
-unfolding content_of contents kind_of rule_of ruled
-bounds-f-4 c =
-    search rules
 
 pub word-x-requires : goal.word-x-requires
 unfolding content_of contents kind_of rule_of ruled
@@ -82,16 +41,6 @@ unfolding content_of contents kind_of rule_of ruled
 og-requires c =
     rw (to_z-of_z {w = w16} {z = c.signed-b.result} (record { sfits = c.signed-b.type_inv }), c.signed-b.ensures)
     (not_zero_lem _ (divisor_allowed _ _ (here (types_of 10) _ c.requires 2 (lit< tt))))
-
-pub pack-requires : goal.pack-requires
-unfolding content_of contents kind_of rule_of ruled
-pack-requires c =
-    search rules
-
-pub pin-requires : goal.pin-requires
-unfolding content_of contents kind_of rule_of ruled
-pin-requires c =
-    search rules
 
 pub returns : goal.returns
 unfolding content_of contents kind_of rule_of ruled

@@ -1,7 +1,6 @@
 -- `rules::turn_ud` meets its contract: the letters of UD at its fields.
 use lib.Dec.{lit<}
 use native.Mathlib.Omega.{arith}
-use borrow.Author.Rules.{rules}
 use mir.Syntax.{w16}
 use mir.Facts.{to_z-of_z}
 use Rattle.numbers.specs.Types.{content_of}
@@ -11,75 +10,30 @@ use Rattle.rules.specs.Rows.{contents}
 use Rattle.rules.proofs.Fields.{below}
 use Rattle.rules.proofs.turn_ud.Goals as goal
 
-pub bounds-f-0 : goal.bounds-f-0
-unfolding content_of contents kind_of rule_of ruled
-bounds-f-0 c =
-    search rules
-
 pub bit-u-requires : goal.bit-u-requires
 unfolding content_of contents kind_of rule_of ruled
 bit-u-requires c =
     below (types_of 8) _ c.requires 0 (lit< tt)
-
-pub bounds-f-1 : goal.bounds-f-1
-unfolding content_of contents kind_of rule_of ruled
-bounds-f-1 c =
-    search rules
 
 pub bit-d-requires : goal.bit-d-requires
 unfolding content_of contents kind_of rule_of ruled
 bit-d-requires c =
     below (types_of 8) _ c.requires 1 (lit< tt)
 
-pub bounds-f-2 : goal.bounds-f-2
-unfolding content_of contents kind_of rule_of ruled
-bounds-f-2 c =
-    search rules
-
 pub bit-set-requires : goal.bit-set-requires
 unfolding content_of contents kind_of rule_of ruled
 bit-set-requires c =
     below (types_of 8) _ c.requires 2 (lit< tt)
-
-pub bounds-f-3 : goal.bounds-f-3
-unfolding content_of contents kind_of rule_of ruled
-bounds-f-3 c =
-    search rules
 
 pub bit-c-requires : goal.bit-c-requires
 unfolding content_of contents kind_of rule_of ruled
 bit-c-requires c =
     below (types_of 8) _ c.requires 3 (lit< tt)
 
-pub bounds-f-4 : goal.bounds-f-4
-unfolding content_of contents kind_of rule_of ruled
-bounds-f-4 c =
-    search rules
-
 pub overflow_cast-f : goal.overflow_cast-f
 unfolding content_of contents kind_of rule_of ruled
 overflow_cast-f c =
     omega (arith, below (types_of 8) _ c.requires 4 (lit< tt))
-
-pub signed-preset-requires : goal.signed-preset-requires
-unfolding content_of contents kind_of rule_of ruled
-signed-preset-requires c =
-    search rules
-
-pub ud-requires : goal.ud-requires
-unfolding content_of contents kind_of rule_of ruled
-ud-requires c =
-    search rules
-
-pub pack-requires : goal.pack-requires
-unfolding content_of contents kind_of rule_of ruled
-pack-requires c =
-    search rules
-
-pub pin-requires : goal.pin-requires
-unfolding content_of contents kind_of rule_of ruled
-pin-requires c =
-    search rules
 
 pub returns : goal.returns
 unfolding content_of contents kind_of rule_of ruled

@@ -1,6 +1,5 @@
 -- `rules::turn_zc` meets its contract: the letters of ZC at its fields.
 use lib.Dec.{lit<}
-use borrow.Author.Rules.{rules}
 use mir.Syntax.{w16}
 use mir.Facts.{to_z-of_z}
 use Rattle.numbers.specs.Types.{content_of}
@@ -10,65 +9,25 @@ use Rattle.rules.specs.Rows.{contents}
 use Rattle.rules.proofs.Fields.{here, below, word_allowed}
 use Rattle.rules.proofs.turn_zc.Goals as goal
 
-pub bounds-f-0 : goal.bounds-f-0
-unfolding content_of contents kind_of rule_of ruled
-bounds-f-0 c =
-    search rules
-
 pub bit-i-requires : goal.bit-i-requires
 unfolding content_of contents kind_of rule_of ruled
 bit-i-requires c =
     below (types_of 11) _ c.requires 0 (lit< tt)
-
-pub bounds-f-2 : goal.bounds-f-2
-unfolding content_of contents kind_of rule_of ruled
-bounds-f-2 c =
-    search rules
 
 pub word-l-requires : goal.word-l-requires
 unfolding content_of contents kind_of rule_of ruled
 word-l-requires c =
     word_allowed _ _ (here (types_of 11) _ c.requires 2 (lit< tt))
 
-pub bounds-f-3 : goal.bounds-f-3
-unfolding content_of contents kind_of rule_of ruled
-bounds-f-3 c =
-    search rules
-
 pub word-x-requires : goal.word-x-requires
 unfolding content_of contents kind_of rule_of ruled
 word-x-requires c =
     word_allowed _ _ (here (types_of 11) _ c.requires 3 (lit< tt))
 
-pub bounds-f-4 : goal.bounds-f-4
-unfolding content_of contents kind_of rule_of ruled
-bounds-f-4 c =
-    search rules
-
 pub word-h-requires : goal.word-h-requires
 unfolding content_of contents kind_of rule_of ruled
 word-h-requires c =
     word_allowed _ _ (here (types_of 11) _ c.requires 4 (lit< tt))
-
-pub bounds-f-1 : goal.bounds-f-1
-unfolding content_of contents kind_of rule_of ruled
-bounds-f-1 c =
-    search rules
-
-pub zc-requires : goal.zc-requires
-unfolding content_of contents kind_of rule_of ruled
-zc-requires c =
-    search rules
-
-pub pack-requires : goal.pack-requires
-unfolding content_of contents kind_of rule_of ruled
-pack-requires c =
-    search rules
-
-pub pin-requires : goal.pin-requires
-unfolding content_of contents kind_of rule_of ruled
-pin-requires c =
-    search rules
 
 pub returns : goal.returns
 unfolding content_of contents kind_of rule_of ruled

@@ -7,17 +7,17 @@ use Rattle.running.proofs.turn_bl.Goals as goal
 
 pub overflow_sub-result : goal.overflow_sub-result
 overflow_sub-result c =
-    omega (arith, bl_left _ _ _ _ (sym c.eval-v.ensures ∙ c.in-Done.is))
+    omega (arith, bl_left _ _ _ _ (sym c.in-Ok.ensures))
 
 pub overflow_add-result : goal.overflow_add-result
 overflow_add-result c =
-    omega (arith, c.memory_of.ensures, memory_light 0 (omega arith), bl_left _ _ _ _ (sym c.eval-v.ensures ∙ c.in-Done.is))
+    omega (arith, c.memory_of.ensures, memory_light 0 (omega arith), bl_left _ _ _ _ (sym c.in-Ok.ensures))
 
-pub returns-in-Broken : goal.returns-in-Broken
-returns-in-Broken c =
-    λ g e. c.none.ensures ∙ bl_broken _ _ _ _ g e _ (sym c.eval-v.ensures ∙ c.in-Broken.is)
+pub returns-in-Err : goal.returns-in-Err
+returns-in-Err c =
+    λ g e. rw c.number.ensures at c.none.ensures ∙ bl_broken _ _ _ _ g e _ (sym c.in-Err.ensures)
 
-pub returns-in-Done : goal.returns-in-Done
-returns-in-Done c =
+pub returns-in-Ok : goal.returns-in-Ok
+returns-in-Ok c =
     λ g e. rw (c.bl.ensures, c.memory_of.ensures, c.mark_of.ensures)
-    (bl_done _ _ _ _ g e _ (sym c.eval-v.ensures ∙ c.in-Done.is))
+    (bl_done _ _ _ _ g e _ (sym c.in-Ok.ensures))

@@ -1,6 +1,5 @@
 -- `scanning::run` meets its contract: the block count, and the trial of what follows.
 use Rattle.scanning.proofs.Runs.{no_count, counted}
-use Rattle.numbers.proofs.Answers.{typed_got, typed_fault}
 use Rattle.numbers.proofs.Typed.{typed_below}
 use lib.ListN.{length}
 use native.Mathlib.Omega.{arith}
@@ -10,17 +9,17 @@ use Rattle.scanning.proofs.run.Goals as goal
 
 pub run_counted-requires : goal.run_counted-requires
 run_counted-requires c =
-    let e = typed_got _ _ _ _ _ (sym c.read_number-c.ensures ∙ c.in-Got.is) in
+    let e = sym c.in-Ok.ensures in
     omega (arith, typed_below _ _ _ _ _ e)
 
-pub returns-in-Fault : goal.returns-in-Fault
-returns-in-Fault c =
-    let n = no_count _ _ _ (typed_fault _ _ _ _ _ (sym c.read_number-c.ensures ∙ c.in-Fault.is)) in
-    record { value = c.refused.ensures ∙ n.answer; after = n.columns }
+pub returns-in-Err : goal.returns-in-Err
+returns-in-Err c =
+    let n = no_count _ _ _ (sym c.in-Err.ensures) in
+    record { value = n.answer; after = n.columns }
 
-pub returns-in-Got : goal.returns-in-Got
-returns-in-Got c =
-    let sized = c.columns_sized.ensures in let e = typed_got _ _ _ _ _ (sym c.read_number-c.ensures ∙ c.in-Got.is) in
+pub returns-in-Ok : goal.returns-in-Ok
+returns-in-Ok c =
+    let sized = c.columns_sized.ensures in let e = sym c.in-Ok.ensures in
     let eight : length c.args.analogs ≡ 8 = search rules in
     let r = counted _ _ _ eight sized e in
     record { value = c.run_counted.ensures.value ∙ r.answer; after = c.run_counted.ensures.after ∙ r.columns }

@@ -1,6 +1,5 @@
 -- `block::Row::read_field` meets its contract: where the row ends, the number after the one before it.
 use Rattle.block.proofs.Rows.{before_place, more_refused, more_fault, more_got}
-use Rattle.numbers.proofs.Answers.{typed_got, typed_fault}
 use Rattle.block.proofs.Row.read_field.Goals.{then-i-eq0, else-i-eq0}
 use mathlib.Core.Path.{refl, ◌∙◌, sym}
 use Rattle.block.proofs.Row.read_field.Goals as goal
@@ -9,14 +8,14 @@ pub returns-in-Fault : goal.returns-in-Fault
 returns-in-Fault c =
     more_refused _ _ _ _ _ c.in-Fault.is
 
-pub returns-in-Fault-n : goal.returns-in-Fault-n
-returns-in-Fault-n c =
-    c.bare.ensures ∙ more_fault _ _ _ _ _ c.in-Next.is
+pub returns-in-Err : goal.returns-in-Err
+returns-in-Err c =
+    rw c.number.ensures at c.bare.ensures ∙ more_fault _ _ _ _ _ c.in-Next.is
     (elim c.if-i-eq0.branch [ then-i-eq0 w ↦ w.before-is ∙ rw w.if-i-eq0.true refl | else-i-eq0 w ↦ w.before-is ∙ before_place _ _ w.if-i-eq0.false ])
-    (typed_fault _ _ _ _ _ (sym c.read_number-n.ensures ∙ c.in-Fault-n.is))
+    (sym c.in-Err.ensures)
 
-pub returns-in-Got : goal.returns-in-Got
-returns-in-Got c =
+pub returns-in-Ok : goal.returns-in-Ok
+returns-in-Ok c =
     more_got _ _ _ _ _ c.in-Next.is
     (elim c.if-i-eq0.branch [ then-i-eq0 w ↦ w.before-is ∙ rw w.if-i-eq0.true refl | else-i-eq0 w ↦ w.before-is ∙ before_place _ _ w.if-i-eq0.false ])
-    (typed_got _ _ _ _ _ (sym c.read_number-n.ensures ∙ c.in-Got.is))
+    (sym c.in-Ok.ensures)

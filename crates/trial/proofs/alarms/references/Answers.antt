@@ -1,48 +1,46 @@
-use Rattle.trial.proofs.AlarmWord.{light, walk_begin, walk_on, walk_fault, walk_over, walk_end, walk_fits}
+use Rattle.trial.proofs.AlarmWord.{walk_begin, walk_on, walk_fault, walk_over, walk_end, walk_fits, light}
 use Rattle.numbers.specs.Types.{bit_ref}
 use Rattle.expression.specs.Expression.{bit_in}
 use Rattle.numbers.proofs.Typed.{typed_below}
-use Rattle.numbers.proofs.Answers.{typed_got, typed_fault}
 use native.Mathlib.Omega.{arith}
-use mathlib.Core.Path.{◌∙◌, sym}
+use Prim.Native.Nat.{◌+◌, ◌-◌}
+use mathlib.Core.Path.{◌≡◌, sym}
 use Rattle.trial.proofs.alarms.references.Goals as goal
 
-pub loop-left-init : goal.loop-left-init
-loop-left-init c =
-    walk_begin _ _ _ _ _
+pub loop-init : goal.loop-init
+loop-init c =
+    let e : c.args.n - 0 ≡ c.args.n = omega arith in rw e (walk_begin _ _ _ _ _)
 
-pub returns-in-Fault : goal.returns-in-Fault
-returns-in-Fault c =
-    c.unread.ensures ∙ walk_fault _ _ _ _ _ c.loop-left.invariant c.loop-left-test.true
-    (typed_fault _ _ _ _ _ (sym c.read_number-r.ensures ∙ c.in-Fault.is))
+pub returns-in-Err : goal.returns-in-Err
+returns-in-Err c =
+    walk_fault _ _ _ _ _ c.loop.invariant (omega arith)
+    (sym c.in-Err.ensures)
 
 pub weigh-word-requires : goal.weigh-word-requires
 weigh-word-requires c =
-    typed_below _ _ _ _ _ (typed_got _ _ _ _ _ (sym c.read_number-r.ensures ∙ c.in-Got.is))
+    typed_below _ _ _ _ _ (sym c.in-Ok.ensures)
 
 pub overflow_add-word : goal.overflow_add-word
 overflow_add-word c =
-    let l = c.loop-left in let h = light (bit_in c.args.bits.now (bit_ref c.in-Got.v)) l.word l.weight l.invariant.low in
-    omega (arith, h, c.weigh-word.ensures, walk_fits _ _ _ _ _ c.loop-left.invariant c.requires)
+    let l = c.loop in let h = light (bit_in c.args.bits.now (bit_ref c.in-Ok.v)) l.word l.weight l.invariant.low in
+    omega (arith, h, c.weigh-word.ensures, walk_fits _ _ _ _ _ l.invariant c.requires)
 
 pub overflow_mul-weight : goal.overflow_mul-weight
 overflow_mul-weight c =
-    omega (arith, walk_fits _ _ _ _ _ c.loop-left.invariant c.requires)
+    omega (arith, walk_fits _ _ _ _ _ c.loop.invariant c.requires)
 
-pub loop-left-preserved : goal.loop-left-preserved
-loop-left-preserved c =
-    rw c.weigh-word.ensures
-    (walk_on _ _ _ _ _ c.loop-left.invariant c.loop-left-test.true
-    (typed_got _ _ _ _ _ (sym c.read_number-r.ensures ∙ c.in-Got.is)))
+pub loop-preserved : goal.loop-preserved
+loop-preserved c =
+    let l = c.loop in
+    let e : c.args.n - (l.counter + 1) ≡ c.args.n - l.counter - 1 = omega arith in
+    rw (c.weigh-word.ensures, e)
+    (walk_on _ _ _ _ _ l.invariant (omega arith)
+    (sym c.in-Ok.ensures))
 
 pub returns-then-at-s : goal.returns-then-at-s
 returns-then-at-s c =
-    c.unread-then-at-s.ensures ∙ walk_over _ _ _ _ _ c.loop-left.invariant (omega arith) c.if-at-s.true
-
-pub overflow_cast-result : goal.overflow_cast-result
-overflow_cast-result c =
-    omega (arith, walk_fits _ _ _ _ _ c.loop-left.invariant c.requires)
+    walk_over _ _ _ _ _ c.loop.invariant (omega arith) c.if-at-s.true
 
 pub returns : goal.returns
 returns c =
-    walk_end _ _ _ _ _ c.loop-left.invariant (omega arith) (omega arith)
+    walk_end _ _ _ _ _ c.loop.invariant (omega arith) c.if-at-s.false
