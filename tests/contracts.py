@@ -19,10 +19,12 @@ def libraries():
 
 
 def public_functions(crate):
-    """Names of the public functions of a crate, each with whether it has a `requires`."""
+    """Names of the public functions of a crate, each with whether it has a `requires`: those of its root, and of what that hands on."""
     of = ''
     found = []
-    for line in (CRATES / crate / 'src/lib.rt').read_text().splitlines():
+    root = (CRATES / crate / 'src/lib.rt').read_text()
+    handed_on = [CRATES / crate / f'src/{name}.rt' for name in re.findall(r'^pub use (\w+)::', root, re.M)]
+    for line in '\n'.join([root] + [path.read_text() for path in handed_on if path.exists()]).splitlines():
         if m := re.match(r'impl (\w+)', line):
             of = m[1] + '::'
         if line == '}':

@@ -14,13 +14,11 @@ fn put_names(s: &[u8], start: usize, n: u32, marks: &[u8; 200], out: &mut [u8], 
 {
     let mut at = start;
     let mut end = to;
-    let mut left = n;
-    while 0 < left {
+    for _ in 0..n {
         let r = known::read_known(s, at, numbers::PIN, marks);
         filling::put_byte(out, end, b' ');
         end = names::put_name(out, end + 1, r.number);
         at = r.next;
-        left -= 1;
     }
     end
 }

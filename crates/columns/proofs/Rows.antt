@@ -1,35 +1,18 @@
--- A column of a row of the table of kinds, as five numbers; and which fields may be left out, by one test of the table. Assumes nothing.
+-- A row of the table of kinds, as the code has it; and which fields may be left out, by one test of the table. Assumes nothing.
 use Prim.Native.Nat.{ℕ, zero, suc, ◌<◌, ◌≤◌}
-use mathlib.Core.Path.{◌≡◌, refl, sym, ◌∙◌}
+use mathlib.Core.Path.{◌≡◌, refl, sym, ap}
 use mathlib.Core.Bool.{Bool, true, false, ◌&&◌}
 use mathlib.Core.List.{List, [], ◌∷◌}
 use native.Mathlib.Omega.{arith}
-use lib.Dec.{eqb, leb}
+use lib.Dec.{eqb, leb, ltb}
 use lib.ListN.{length, get_or}
-use borrow.Author.Tests.{eqb-true, leb-true}
+use borrow.Author.Tests.{eqb-true, leb-true, ltb-true, ltb-false}
 use Rattle.terms.specs.Choice.{pick, every}
 use Rattle.terms.proofs.Choice.{both, never}
 use Rattle.terms.proofs.Every.{every_at}
 use Rattle.numbers.specs.Types.{pin}
 use Rattle.kinds.specs.Kinds.{Field, Kind, kind, kinds, kind_of, listed_fields, fields_of, nothing, types_in, types_of}
-use Rattle.columns.specs.Columns.{no_field, field_of, must_stand, left_code}
-
-module _ (f : Field → ℕ) where
-  -- a column of the first n fields of a row
-  abbrev pub firsts : ℕ → List Field → List ℕ
-  firsts zero fs = []
-  firsts (suc n) [] = f no_field ∷ firsts n []
-  firsts (suc n) (x ∷ fs) = f x ∷ firsts n fs
-
-  firsts_at : (n : ℕ) (fs : List Field) (i : ℕ) → i < n → get_or (firsts n fs) i 0 ≡ f (get_or fs i no_field)
-  firsts_at zero fs i h = absurd (omega arith)
-  firsts_at (suc n) [] zero h = refl
-  firsts_at (suc n) [] (suc i) h = firsts_at n [] i (omega arith)
-  firsts_at (suc n) (x ∷ fs) zero h = refl
-  firsts_at (suc n) (x ∷ fs) (suc i) h = firsts_at n fs i (omega arith)
-
-  pub in_row : (k : ℕ) {kind i r : ℕ} → kind ≡ k → i < 5 → r ≡ get_or (firsts 5 (fields_of k)) i 0 → r ≡ f (field_of kind i)
-  in_row k {kind} {i} e h g = g ∙ rw e (firsts_at 5 (fields_of k) i h)
+use Rattle.columns.specs.Columns.{no_field, field_of, row, must_stand, left_code}
 
 -- only a bit pin may be left out
 may_be_left : Field → Bool
@@ -92,3 +75,27 @@ types_at (f ∷ fs) (suc i) = types_at fs i
 
 pub type_at : (k i : ℕ) → get_or (types_of k) i nothing ≡ (field_of k i).type
 type_at k i = rw (types_are k) (types_at (fields_of k) i)
+
+-- a row as the code has it is as long, and has the names and types of its fields
+pub row_long : (fs : List Field) → length (row fs) ≡ length fs
+row_long [] = refl
+row_long (f ∷ fs) = omega (arith, row_long fs)
+
+-- what stands at a place of it, and past its end
+row_at : (fs : List Field) (i : ℕ) (p : ℕ × ℕ) → i < length (row fs) → p ≡ get_or (row fs) i p →
+    (p.0 ≡ (get_or fs i no_field).name) × (p.1 ≡ (get_or fs i no_field).type)
+row_at [] i p h e = absurd (omega arith)
+row_at (f ∷ fs) zero p h e = (ap (λ (q : ℕ × ℕ). q.0) e, ap (λ (q : ℕ × ℕ). q.1) e)
+row_at (f ∷ fs) (suc i) p h e = row_at fs i p (omega arith) e
+
+row_past : (fs : List Field) (i : ℕ) → length (row fs) ≤ i → get_or fs i no_field ≡ no_field
+row_past [] i h = refl
+row_past (f ∷ fs) zero h = absurd (omega arith)
+row_past (f ∷ fs) (suc i) h = row_past fs i (omega arith)
+
+module _ {rows : List (ℕ × ℕ)} (kind : ℕ) {i j : ℕ} (r : rows ≡ row (fields_of kind)) (e : j ≡ i) where
+  pub field_there : (p : ℕ × ℕ) → true ≡ ltb j (length rows) → p ≡ get_or rows j p → (p.0 ≡ (field_of kind i).name) × (p.1 ≡ (field_of kind i).type)
+  field_there p h q = row_at (fields_of kind) i p (ltb-true _ _ (rw (r, e) at (sym h))) (rw (r, e) at q)
+
+  pub field_none : false ≡ ltb j (length rows) → field_of kind i ≡ no_field
+  field_none h = row_past (fields_of kind) i (ltb-false _ _ (rw (r, e) at (sym h)))

@@ -1,10 +1,10 @@
 // The fields of the table of kinds, for the code: kinds/specs/Kinds, column by column.
 #![tactic(auto)]
 
-ghost use Rattle.std.specs.Prelude.{[], ◌∷◌, ◌≡◌, ◌<◌, length, get_or};
+ghost use Rattle.std.specs.Prelude.{◌≡◌, ◌<◌, length};
 ghost use Rattle.numbers.specs.Types.{kind_count};
 ghost use Rattle.kinds.specs.Kinds.{fields_of};
-ghost use Rattle.columns.specs.Columns.{field_of, left_code};
+ghost use Rattle.columns.specs.Columns.{field_of, row, left_code};
 
 use numbers::{DIVISOR, EITHER_WAY, OFF_TIME, PIN, PLUS_MINUS, WORD_PIN};
 use words::{
@@ -23,40 +23,68 @@ pub const NOTHING: u8 = 14;
 // For a field that must stand in a listing: no bit reference.
 pub const NEVER: u8 = 234;
 
+// The fields of a kind, in the order of the table: the name of each, by the words' numbers, and its type.
+#[tactic(auto, unfolding(kinds::specs::Kinds::fields_of))]
+fn row_of(kind: u8) -> &'static [(u8, u8)]
+    requires { kind < kind_count }
+    ensures { result.now ≡ row (fields_of kind) }
+{
+    match kind {
+        0 => &[(NAMELESS, EXPRESSION)],
+        1 => &[(S, PIN), (R, PIN), (PRIORITY, EITHER_WAY)],
+        2 => &[(I, PIN), (MODE, EITHER_WAY)],
+        3 => &[(I, PIN), (C, PIN)],
+        4 => &[
+            (I, PIN),
+            (C, PIN),
+            (UNIT, numbers::UNIT),
+            (ON, numbers::TIME),
+            (OFF, numbers::TIME),
+        ],
+        5 => &[
+            (I, PIN),
+            (C, PIN),
+            (UNIT, numbers::UNIT),
+            (TIME, numbers::TIME),
+        ],
+        6 => &[
+            (I, PIN),
+            (UNIT, numbers::UNIT),
+            (ON, numbers::TIME),
+            (OFF, OFF_TIME),
+        ],
+        7 => &[(I, PIN), (C, PIN), (PRESET, numbers::TIME)],
+        8 => &[(U, PIN), (D, PIN), (P, PIN), (C, PIN), (PRESET, PLUS_MINUS)],
+        9 => &[
+            (I, PIN),
+            (RELATION, numbers::RELATION),
+            (A, WORD_PIN),
+            (B, WORD_PIN),
+        ],
+        10 => &[
+            (I, PIN),
+            (A, PLUS_MINUS),
+            (B, DIVISOR),
+            (C, PLUS_MINUS),
+            (X, WORD_PIN),
+        ],
+        11 => &[
+            (I, PIN),
+            (MODE, EITHER_WAY),
+            (L, WORD_PIN),
+            (X, WORD_PIN),
+            (H, WORD_PIN),
+        ],
+        _ => &[(I, PIN), (X, WORD_PIN), (H, WORD_PIN), (L, WORD_PIN)],
+    }
+}
+
 // How many fields a kind has.
 pub fn count_of(kind: u8) -> u8
     requires { kind < kind_count }
     ensures { result ≡ length (fields_of kind) }
 {
-    match kind {
-        0 => 1,
-        1 => 3,
-        2 => 2,
-        3 => 2,
-        4 => 5,
-        5 => 4,
-        6 => 4,
-        7 => 3,
-        8 => 5,
-        9 => 4,
-        10 => 5,
-        11 => 5,
-        _ => 4,
-    }
-}
-
-// Number i of a row of five.
-fn nth(i: u8, a: u8, b: u8, c: u8, d: u8, e: u8) -> u8
-    requires { i < 5 }
-    ensures { result ≡ get_or (a ∷ b ∷ c ∷ d ∷ e ∷ []) i 0 }
-{
-    match i {
-        0 => a,
-        1 => b,
-        2 => c,
-        3 => d,
-        _ => e,
-    }
+    row_of(kind).len() as u8
 }
 
 // The name of field i of a kind, by the words' numbers.
@@ -64,20 +92,9 @@ pub fn name_of(kind: u8, i: u8) -> u8
     requires { (kind < kind_count) × (i < 5) }
     ensures { result ≡ (field_of kind i).name }
 {
-    match kind {
-        0 => nth(i, NAMELESS, NAMELESS, NAMELESS, NAMELESS, NAMELESS),
-        1 => nth(i, S, R, PRIORITY, NAMELESS, NAMELESS),
-        2 => nth(i, I, MODE, NAMELESS, NAMELESS, NAMELESS),
-        3 => nth(i, I, C, NAMELESS, NAMELESS, NAMELESS),
-        4 => nth(i, I, C, UNIT, ON, OFF),
-        5 => nth(i, I, C, UNIT, TIME, NAMELESS),
-        6 => nth(i, I, UNIT, ON, OFF, NAMELESS),
-        7 => nth(i, I, C, PRESET, NAMELESS, NAMELESS),
-        8 => nth(i, U, D, P, C, PRESET),
-        9 => nth(i, I, RELATION, A, B, NAMELESS),
-        10 => nth(i, I, A, B, C, X),
-        11 => nth(i, I, MODE, L, X, H),
-        _ => nth(i, I, X, H, L, NAMELESS),
+    match row_of(kind).get(usize::from(i)) {
+        Some(&(name, _)) => name,
+        None => NAMELESS,
     }
 }
 
@@ -86,20 +103,9 @@ pub fn type_of(kind: u8, i: u8) -> u8
     requires { (kind < kind_count) × (i < 5) }
     ensures { result ≡ (field_of kind i).type }
 {
-    match kind {
-        0 => nth(i, EXPRESSION, NOTHING, NOTHING, NOTHING, NOTHING),
-        1 => nth(i, PIN, PIN, EITHER_WAY, NOTHING, NOTHING),
-        2 => nth(i, PIN, EITHER_WAY, NOTHING, NOTHING, NOTHING),
-        3 => nth(i, PIN, PIN, NOTHING, NOTHING, NOTHING),
-        4 => nth(i, PIN, PIN, numbers::UNIT, numbers::TIME, numbers::TIME),
-        5 => nth(i, PIN, PIN, numbers::UNIT, numbers::TIME, NOTHING),
-        6 => nth(i, PIN, numbers::UNIT, numbers::TIME, OFF_TIME, NOTHING),
-        7 => nth(i, PIN, PIN, numbers::TIME, NOTHING, NOTHING),
-        8 => nth(i, PIN, PIN, PIN, PIN, PLUS_MINUS),
-        9 => nth(i, PIN, numbers::RELATION, WORD_PIN, WORD_PIN, NOTHING),
-        10 => nth(i, PIN, PLUS_MINUS, DIVISOR, PLUS_MINUS, WORD_PIN),
-        11 => nth(i, PIN, EITHER_WAY, WORD_PIN, WORD_PIN, WORD_PIN),
-        _ => nth(i, PIN, WORD_PIN, WORD_PIN, WORD_PIN, NOTHING),
+    match row_of(kind).get(usize::from(i)) {
+        Some(&(_, ty)) => ty,
+        None => NOTHING,
     }
 }
 

@@ -9,6 +9,7 @@ use Rattle.determinacy.specs.Determinacy.{log_from, columns_from, image_from, im
 use Rattle.determinacy.proofs.Loose.{filled, differ}
 use Rattle.terms.proofs.signed.Reads as terms_signed
 use Rattle.terms.proofs.hold.Reads as terms_hold
+use Rattle.terms.proofs.refusal.Refusal.number.Reads as terms_refusal_number
 use Rattle.wire.proofs.number.Reads as wire_number
 use Rattle.place.proofs.Place.fresh.Reads as place_fresh
 use Rattle.place.proofs.Place.pin.Reads as place_pin
@@ -122,6 +123,7 @@ DeterminedWith {L} {K} {A} {B} {E} lent Learnt =
 pub record Determinacy : Type 0 where
   pub terms_signed : Determined terms_signed.Learnt
   pub terms_hold : Determined terms_hold.Learnt
+  pub terms_refusal_number : Determined terms_refusal_number.Learnt
   pub wire_number : Determined wire_number.Learnt
   pub place_fresh : Determined place_fresh.Learnt
   pub place_pin : Determined place_pin.Learnt
@@ -231,6 +233,7 @@ all =
     record {
       terms_signed = λ κ a x y u v h k. cc;
       terms_hold = λ κ a x y u v h k. cc;
+      terms_refusal_number = λ κ a x y u v h k. cc;
       wire_number = λ κ a x y u v h k. cc;
       place_fresh = λ κ a x y u v h k. cc;
       place_pin = λ κ a x y u v h k. cc;

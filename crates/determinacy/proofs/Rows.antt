@@ -10,6 +10,7 @@ use Rattle.determinacy.specs.Determinacy.{Determined, DeterminedWith, log_from, 
 use Rattle.determinacy.proofs.Facts.{two, four, determined, determined_with}
 use Rattle.terms.specs.contracts.signed as terms_signed
 use Rattle.terms.specs.contracts.hold as terms_hold
+use Rattle.terms.specs.contracts.refusal.Refusal.number as terms_refusal_number
 use Rattle.wire.specs.contracts.number as wire_number
 use Rattle.place.specs.contracts.Place.fresh as place_fresh
 use Rattle.place.specs.contracts.Place.pin as place_pin
@@ -116,6 +117,10 @@ module _ {M : Type 1} {𝓤 : Ura M} (𝓛 : Logic 𝓤) where
 
   pub terms_hold_row : ent 𝓤 (emp 𝓤) (Determined 𝓛 terms_hold.ended (terms_hold.clauses 𝓛))
   terms_hold_row = determined 𝓛 terms_hold.ended (terms_hold.clauses 𝓛) (λ κs a g x y u v. two 𝓤 _ _ _ (λ h k. cc))
+
+  pub terms_refusal_number_row : ent 𝓤 (emp 𝓤) (Determined 𝓛 terms_refusal_number.ended (terms_refusal_number.clauses 𝓛))
+  terms_refusal_number_row =
+      determined 𝓛 terms_refusal_number.ended (terms_refusal_number.clauses 𝓛) (λ κs a g x y u v. two 𝓤 _ _ _ (λ h k. cc))
 
   pub wire_number_row : ent 𝓤 (emp 𝓤) (Determined 𝓛 wire_number.ended (wire_number.clauses 𝓛))
   wire_number_row = determined 𝓛 wire_number.ended (wire_number.clauses 𝓛) (λ κs a g x y u v. two 𝓤 _ _ _ (λ h k. cc))

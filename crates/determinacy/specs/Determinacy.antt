@@ -16,6 +16,7 @@ use Rattle.image.specs.Image.{Log, log, Columns, columns, Image, image}
 use Rattle.turns.specs.Arrays.{Arrays, arrays}
 use Rattle.terms.specs.contracts.signed as terms_signed
 use Rattle.terms.specs.contracts.hold as terms_hold
+use Rattle.terms.specs.contracts.refusal.Refusal.number as terms_refusal_number
 use Rattle.wire.specs.contracts.number as wire_number
 use Rattle.place.specs.contracts.Place.fresh as place_fresh
 use Rattle.place.specs.contracts.Place.pin as place_pin
@@ -171,6 +172,7 @@ module _ {M : Type 1} {𝓤 : Ura M} (𝓛 : Logic 𝓤) where
   Determinacy =
       Determined terms_signed.ended (terms_signed.clauses 𝓛)
       ∧ₛ Determined terms_hold.ended (terms_hold.clauses 𝓛)
+      ∧ₛ Determined terms_refusal_number.ended (terms_refusal_number.clauses 𝓛)
       ∧ₛ Determined wire_number.ended (wire_number.clauses 𝓛)
       ∧ₛ Determined place_fresh.ended (place_fresh.clauses 𝓛)
       ∧ₛ Determined place_pin.ended (place_pin.clauses 𝓛)

@@ -20,12 +20,10 @@ fn put_lines(s: &[u8], marks: &[u8; 200], out: &mut [u8]) -> usize
     let count = n.number as u8;
     let mut at = n.next;
     let mut to: usize = 0;
-    let mut i: u8 = 0;
-    while i < count {
+    for i in 0..count {
         let line = listing::put_line(s, at, i, marks, out, to);
         at = line.next;
         to = line.to;
-        i += 1;
     }
     alarms::put_alarms(s, at, marks, out, to)
 }

@@ -9,6 +9,7 @@ use nodes::Node;
 use terms::Fault;
 
 // What an operator of two parts makes of x and y, as bit 2x + y of a number.
+#[tactic(auto, unfolding(crate::specs::Expression::gate_of))]
 fn truths_of(op: u32) -> u32
     ensures { result ≡ truth_table (gate_of op) }
 {
@@ -22,6 +23,7 @@ fn truths_of(op: u32) -> u32
 }
 
 // What an operator of two parts makes of them.
+#[tactic(auto, using(crate::proofs::Laws::bit_small, crate::proofs::Laws::truth_bit))]
 fn gate(op: u32, x: bool, y: bool) -> bool
     ensures { result ≡ gate_of op x y }
 {
@@ -30,6 +32,7 @@ fn gate(op: u32, x: bool, y: bool) -> bool
 }
 
 // Whether an operator whose first part came to x leaves its second part unvisited, as bit x of a number.
+#[tactic(auto, unfolding(crate::specs::Expression::skips_of))]
 fn skips_of(op: u32) -> u32
     ensures { result ≡ skip_table (skips_of op) }
 {
@@ -43,6 +46,7 @@ fn skips_of(op: u32) -> u32
 }
 
 // Whether the second part is left unvisited.
+#[tactic(auto, using(crate::proofs::Laws::bit_small, crate::proofs::Laws::skip_bit))]
 fn skips(op: u32, x: bool) -> bool
     ensures { result ≡ skips_of op x }
 {

@@ -11,7 +11,7 @@ use lib.Dec.{T, eqb, ltb, ltb→lt}
 use borrow.Author.Tests.{ne_eqb}
 use Rattle.terms.proofs.Table.{every, at}
 use Rattle.words.specs.Words.{word_count}
-use Rattle.kinds.specs.Kinds.{LeftOut, never, reads, Field, kind, kind_of, fields_of, listed_fields}
+use Rattle.kinds.specs.Kinds.{LeftOut, never, reads, Field, kind_of, fields_of, listed_fields}
 use Rattle.columns.specs.Columns.{no_field, field_of, left_code}
 use Rattle.layout.specs.Listed.{leaves_out, field_text}
 use Rattle.fields.specs.Codes.{IsField, codes_text}

@@ -18,10 +18,7 @@ fn leaves_out(kind: u8, i: u8, v: u32) -> bool
     requires { (kind < kind_count) × (i < 5) }
     ensures { result ≡ leaves_out (field_of kind i).left_out_as v }
 {
-    if v != 0 {
-        return false;
-    }
-    columns::left_out_of(kind, i) == 0
+    v == 0 && columns::left_out_of(kind, i) == 0
 }
 
 // Puts a field: a space, its name, and its value.
@@ -59,10 +56,8 @@ pub fn put_fields(out: &mut [u8], to: usize, kind: u8, fields: [u32; 5]) -> usiz
 {
     let count = columns::count_of(kind);
     let mut next = to;
-    let mut i: u8 = 0;
-    while i < count {
-        next = put_field(out, next, kind, i, fields[i as usize]);
-        i += 1;
+    for i in 0..count {
+        next = put_field(out, next, kind, i, fields[usize::from(i)]);
     }
     next
 }

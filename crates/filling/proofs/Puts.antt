@@ -36,3 +36,9 @@ put_behind {xs = xs} {i = i} e q =
 
 pub put_length : {xs l : List ℕ} {i : ℕ} {m : List ℕ} {j : ℕ} → Put xs l i m j → length m ≡ length l
 put_length {xs} {l} {i} p = ap length p.bytes ∙ length-sets l i xs
+
+-- a byte put right after a text
+pub put_last :
+    (b : ℕ) {xs l : List ℕ} {i : ℕ} {m : List ℕ} {j : ℕ} {n : List ℕ} →
+    Put xs l i m j → n ≡ set m j b → Put (xs ++ (b ∷ [])) l i n (j + 1)
+put_last b p e = put_then p (record { bytes = e; place = omega arith })

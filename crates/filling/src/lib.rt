@@ -18,10 +18,8 @@ pub fn put(out: &mut [u8], at: usize, text: &[u8]) -> usize
     requires { at + length text.now < 2 ^ 64 }
     ensures { Put text.now out.old at out.new result }
 {
-    let mut i: usize = 0;
-    while i < text.len() {
-        put_byte(out, at + i, text[i]);
-        i += 1;
+    for (i, byte) in text.iter().enumerate() {
+        put_byte(out, at + i, *byte);
     }
     at + text.len()
 }
@@ -31,14 +29,11 @@ pub fn put_decimal(out: &mut [u8], at: usize, n: u32) -> usize
     requires { at + 10 < 2 ^ 64 }
     ensures { Put (decimal n) out.old at out.new result }
 {
-    let mut text = [0u8; 10];
-    let mut from: usize = 9;
-    let mut left = n;
-    while 10 <= left {
-        text[from] = b'0' + ((left % 10) as u8);
-        from -= 1;
-        left /= 10;
-    }
-    text[from] = b'0' + (left as u8);
-    put(out, at, &text[from..])
+    let last = if n < 10 {
+        at
+    } else {
+        put_decimal(out, at, n / 10)
+    };
+    put_byte(out, last, b'0' + ((n % 10) as u8));
+    last + 1
 }

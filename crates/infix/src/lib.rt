@@ -10,29 +10,28 @@ ghost use Rattle.infix.specs.Infix.{spaced, byte_if, most_of_node, Writes, text_
 
 use nodes::Node;
 
-// Puts an operator of two parts, with a space on both sides.
-fn put_sign(out: &mut [u8], at: usize, op: u32) -> usize
-    requires { at + 4 < 2 ^ 64 }
-    ensures { Put (spaced op) out.old at out.new result }
+// The sign of an operator of two parts, with a space on both sides.
+#[tactic(auto, unfolding(shown::specs::Show::sign_of))]
+fn spaced(op: u32) -> &'static [u8]
+    ensures { result.now ≡ spaced op }
 {
     match op {
-        1 => filling::put(out, at, b" & "),
-        2 => filling::put(out, at, b" | "),
-        3 => filling::put(out, at, b" ^ "),
-        4 => filling::put(out, at, b" !& "),
-        _ => filling::put(out, at, b" !| "),
+        1 => b" & ",
+        2 => b" | ",
+        3 => b" ^ ",
+        4 => b" !& ",
+        _ => b" !| ",
     }
 }
 
 // The level of the list that an operator of two parts stands in.
+#[tactic(auto, unfolding(shown::specs::Show::list_of))]
 fn list_of(op: u32) -> u8
     ensures { result ≡ list_of op }
 {
     match op {
-        1 => 2,
-        2 => 0,
+        1 | 4 => 2,
         3 => 1,
-        4 => 2,
         _ => 0,
     }
 }
@@ -93,7 +92,7 @@ fn write(
             let asked = l < level;
             let from = put_if(out, to, asked, b'(');
             let a = write(s, next, depth - 1, left - 1, marks, l, out, from);
-            let e = put_sign(out, a.to, op);
+            let e = filling::put(out, a.to, spaced(op));
             let b = write(s, a.next, depth - 1, a.left, marks, l + 1, out, e);
             let end = put_if(out, b.to, asked, b')');
             Written {

@@ -17,7 +17,7 @@ fn put_head(out: &mut [u8], to: usize, i: u8, kind: u8) -> usize
     requires { (kind < kind_count) × (to + 13 < 2 ^ 64) }
     ensures { Put (name_of (output i) ++ (space ∷ word_text (letters_of kind))) out.old to out.new result }
 {
-    let numbered = names::put_three_digits(out, to, b'B', i as u32);
+    let numbered = names::put_numbered(out, to, b'B', 3, u32::from(i));
     filling::put_byte(out, numbered, b' ');
     words::put_word(out, numbered + 1, words::LETTERS + kind)
 }

@@ -1,11 +1,12 @@
 -- The name of a bit reference, by the ranges of its number. Assumes nothing.
-use Prim.Native.Nat.{ℕ, ◌+◌, ◌-◌, ◌<◌, ◌≤◌}
+use Prim.Native.Nat.{ℕ, zero, suc, ◌+◌, ◌-◌, ◌/◌, ◌%◌, ◌<◌, ◌≤◌}
 use mathlib.Core.Path.{◌≡◌, refl}
-use mathlib.Core.List.{[], ◌∷◌}
+use mathlib.Core.List.{[], ◌∷◌, ◌++◌}
 use native.Mathlib.Omega.{arith}
+use lib.ListN.{length, length-append}
 use Rattle.numbers.specs.Types.{bit_ref}
 use Rattle.numbers.proofs.References.{bit_cases}
-use Rattle.grammar.specs.Grammar.{letter_b, letter_i}
+use Rattle.grammar.specs.Grammar.{digit, letter_b, letter_i}
 use Rattle.shown.specs.Show.{in_digits, name_of}
 
 module _ (r : ℕ) where
@@ -25,3 +26,12 @@ module _ (r : ℕ) where
   name_output h =
       bit_cases (λ b. name_of b ≡ letter_b ∷ in_digits 3 (r - 34)) r (λ e. absurd (omega arith)) (λ e. absurd (omega arith))
       (λ f g. absurd (omega arith)) (λ f. refl)
+
+-- a number in k digits takes k bytes, and ends in its last digit
+pub digits_long : (k n : ℕ) → length (in_digits k n) ≡ k
+digits_long zero n = refl
+digits_long (suc k) n = omega (arith, length-append (in_digits k (n / 10)) (digit (n % 10) ∷ []), digits_long k (n / 10))
+
+pub digits_last : (k n : ℕ) → 0 < k → in_digits k n ≡ in_digits (k - 1) (n / 10) ++ (digit (n % 10) ∷ [])
+digits_last zero n h = absurd (omega arith)
+digits_last (suc k) n h = let e : suc k - 1 ≡ k = omega arith in rw e refl

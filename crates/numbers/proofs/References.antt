@@ -41,22 +41,6 @@ bit_code_lem r = bit_cases (λ b. bit_code b ≡ r) r sym sym (λ a b. omega ari
 pub word_code_lem : (r : ℕ) → word_code (word_ref r) ≡ r
 word_code_lem r = word_cases (λ w. word_code w ≡ r) r (λ a. refl) (λ a b. omega arith) (λ a. refl)
 
--- a reference below the blocks is marked; one to a block goes by the mark of the block
-pub bit_below : (k : Marks) (r : ℕ) → r < 34 → true ≡ bit_marked k (bit_ref r)
-bit_below k r h = bit_cases (λ b. true ≡ bit_marked k b) r (λ e. refl) (λ e. refl) (λ a b. refl) (λ a. absurd (omega arith))
-
-pub bit_above : (k : Marks) (r : ℕ) → 34 ≤ r → not (eqb (get_or k (r - 34) 0) 0) ≡ bit_marked k (bit_ref r)
-bit_above k r h =
-    bit_cases (λ b. not (eqb (get_or k (r - 34) 0) 0) ≡ bit_marked k b) r (λ e. absurd (omega arith)) (λ e. absurd (omega arith)) (λ a b. absurd (omega arith)) (λ a. refl)
-
--- the same of words
-pub word_plain : (k : Marks) (r : ℕ) → (8 ≤ r → r < 208 → ⊥) → true ≡ word_marked k (word_ref r)
-word_plain k r h = word_cases (λ w. true ≡ word_marked k w) r (λ a. refl) (λ a b. absurd (h a b)) (λ a. refl)
-
-pub word_of_lem : (k : Marks) (r : ℕ) → 8 ≤ r → r < 208 → eqb (get_or k (r - 8) 0) 2 ≡ word_marked k (word_ref r)
-word_of_lem k r g h =
-    word_cases (λ w. eqb (get_or k (r - 8) 0) 2 ≡ word_marked k w) r (λ a. absurd (omega arith)) (λ a b. refl) (λ a. absurd (omega arith))
-
 -- an allowed number is below its type's limit
 pub allowed_below : (ty before v : ℕ) → allowed ty before v ≡ true → v < get_or limits ty 0
 unfolding allowed
@@ -112,10 +96,6 @@ module _ (m : Marks) (v : ℕ) where
   pub marked_pin : bit_marked m (bit_ref v) ≡ marked m pin v
   unfolding marked said_by content_of
   marked_pin = one_bit (bit_marked m) (word_marked m) (bit_ref v)
-
-  pub marked_word : word_marked m (word_ref v) ≡ marked m word_pin v
-  unfolding marked said_by content_of
-  marked_word = one_word (bit_marked m) (word_marked m) (word_ref v)
 
   pub marked_operator : v < 6 → true ≡ marked m node_number v
   unfolding marked said_by

@@ -10,6 +10,8 @@ use terms::{Fault, Refusal};
 use wire::Unread;
 
 // The types of number, by the names of specs/Types.
+// Kept: what may not change; `values::bias_of` and `printing::put_value` promise of a type as any number, and `columns::type_of` answers with
+// two types more, so that an enum would stand beside these numbers.
 pub const PIN: u8 = 0;
 
 pub const WORD_PIN: u8 = 1;
@@ -62,73 +64,46 @@ pub fn limit_of(ty: u8) -> u32
 }
 
 // Whether v may stand as a number of type ty after the setting `before`.
+#[tactic(auto, unfolding(crate::specs::Types::allowed, crate::specs::Types::excepted))]
 fn allow(ty: u8, before: u32, v: u32) -> bool
     requires { ty < number_types }
     ensures { result ≡ allowed ty before v }
 {
-    if limit_of(ty) <= v {
-        return false;
-    }
-    if ty == WORD_PIN {
-        if v < 208 {
-            return true;
+    v < limit_of(ty)
+        && match ty {
+            WORD_PIN => v < 208 || 1000 <= v,
+            DIVISOR => v != 32768,
+            OFF_TIME => before != 0 || v != 0,
+            BLOCK_COUNT => v != 0,
+            _ => true,
         }
-        return 1000 <= v;
-    }
-    if ty == DIVISOR {
-        return v != 32768;
-    }
-    if ty == OFF_TIME {
-        if before == 0 {
-            return v != 0;
-        }
-        return true;
-    }
-    if ty == BLOCK_COUNT {
-        return v != 0;
-    }
-    true
 }
 
 // Whether what a bit reference refers to is marked.
+#[tactic(auto, unfolding(crate::specs::Types::bit_ref))]
 fn is_bit_marked(r: u32, marks: &[u8; 200]) -> bool
     requires { r < 234 }
     ensures { result ≡ bit_marked marks.now (bit_ref r) }
 {
-    if r < 34 {
-        return true;
-    }
-    let i = (r - 34) as usize;
-    marks[i] != 0
+    r < 34 || marks[(r - 34) as usize] != 0
 }
 
 // Whether what a number of type ty refers to is marked.
+#[tactic(auto, unfolding(crate::specs::Reading::marked, crate::specs::Types::said_by, crate::specs::Types::content_of, crate::specs::Types::word_ref))]
 fn is_marked(ty: u8, v: u32, marks: &[u8; 200]) -> bool
     requires { v < get_or limits ty 0 }
     ensures { result ≡ marked marks.now ty v }
 {
-    if ty == PIN {
-        return is_bit_marked(v, marks);
+    match ty {
+        PIN => is_bit_marked(v, marks),
+        NODE_NUMBER => v < 6 || is_bit_marked(v - 6, marks),
+        WORD_PIN => v < 8 || 208 <= v || marks[(v - 8) as usize] == 2,
+        _ => true,
     }
-    if ty == NODE_NUMBER {
-        if v < 6 {
-            return true;
-        }
-        return is_bit_marked(v - 6, marks);
-    }
-    if ty == WORD_PIN {
-        if v < 8 {
-            return true;
-        }
-        if v < 208 {
-            let i = (v - 8) as usize;
-            return marks[i] == 2;
-        }
-    }
-    true
 }
 
 // The number of type ty at a place, after the setting `before`, and the place after it.
+#[tactic(auto, using(crate::proofs::References::allowed_below), unfolding(crate::specs::Reading::typed_at))]
 pub fn read_number(
     s: &[u8],
     at: usize,

@@ -23,13 +23,11 @@ fn put_word(out: &mut [u8], at: usize, v: u32) -> usize
     requires { at + 11 < 2 ^ 64 }
     ensures { Put (word_name (word_ref v)) out.old at out.new result }
 {
-    if v < 8 {
-        return names::put_two_digits(out, at, b'A', v + 1);
+    match v {
+        0..8 => names::put_numbered(out, at, b'A', 2, v + 1),
+        8..208 => names::put_numbered(out, at, b'W', 3, v - 8),
+        _ => put_signed(out, at, values::CONSTANT_BIAS, v),
     }
-    if v < 208 {
-        return names::put_three_digits(out, at, b'W', v - 8);
-    }
-    put_signed(out, at, values::CONSTANT_BIAS, v)
 }
 
 // Puts the value of a field of a type.
@@ -37,12 +35,9 @@ pub fn put_value(out: &mut [u8], at: usize, ty: u8, v: u32) -> usize
     requires { at + 11 < 2 ^ 64 }
     ensures { Put (value_text ty v) out.old at out.new result }
 {
-    if ty == numbers::PIN {
-        return names::put_name(out, at, v);
+    match ty {
+        numbers::PIN => names::put_name(out, at, v),
+        numbers::WORD_PIN => put_word(out, at, v),
+        _ => put_signed(out, at, values::bias_of(ty), v),
     }
-    if ty == numbers::WORD_PIN {
-        return put_word(out, at, v);
-    }
-    let bias = values::bias_of(ty);
-    put_signed(out, at, bias, v)
 }

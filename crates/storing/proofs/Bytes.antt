@@ -2,11 +2,9 @@
 use Prim.Native.Nat.{ℕ, zero, suc, ◌+◌, ◌*◌, ◌-◌, ◌/◌, ◌%◌, ◌<◌, ◌≤◌}
 use mathlib.Core.Path.{◌≡◌, refl}
 use mathlib.Core.List.{List, [], ◌∷◌, ◌++◌, append_assoc}
-use native.Mathlib.Numerals.{add-one}
 use native.Mathlib.Omega.{arith}
 use lib.Dec.{ltb}
-use lib.ListN.{length, get_or, drop, length-append, drop_of_length-le}
-use lib.Seq.{drop-cons}
+use lib.ListN.{length, length-append}
 use borrow.Author.Tests.{lt-ltb, le-ltb}
 use Rattle.terms.proofs.Choice.{pick_case}
 use Rattle.wire.specs.Number.{groups_of}
@@ -44,11 +42,3 @@ module _ (i v : ℕ) where
   pub group_none : 3 ≤ i → groups_of (3 - i) v ≡ []
   unfolding groups_of
   group_none h = let e : 3 - i ≡ 0 = omega arith in rw e
-
--- the numbers that are left after the first i
-module _ (vs : List ℕ) (i : ℕ) where
-  pub number_next : i < length vs → bytes_of (drop i vs) ≡ groups_of 3 (get_or vs i 0) ++ bytes_of (drop (i + 1) vs)
-  number_next h = rw (add-one i, drop-cons vs i 0 h)
-
-  pub number_none : length vs ≤ i → bytes_of (drop i vs) ≡ []
-  number_none h = rw (drop_of_length-le vs h)

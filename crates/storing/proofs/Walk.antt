@@ -1,32 +1,41 @@
--- Numbers put one after the other, on a walk from the first: those that are left make the whole. Assumes nothing.
-use Prim.Native.Nat.{ℕ, ◌+◌, ◌*◌, ◌<◌, ◌≤◌}
-use mathlib.Core.List.{List}
-use native.Mathlib.Omega.{arith}
-use lib.ListN.{length, get_or, drop}
+-- Values put as numbers one after the other: one more, and values that are numbers already. Assumes nothing.
+use Prim.Native.Nat.{ℕ}
+use mathlib.Core.Path.{◌≡◌, refl}
+use mathlib.Core.List.{List, [], ◌∷◌, ◌++◌, append-nil}
 use Rattle.wire.specs.Number.{groups_of}
 use Rattle.writing.specs.Expressions.{bytes_of}
 use Rattle.filling.specs.Filling.{Put}
-use Rattle.storing.proofs.Rest.{Rest, rest_all, rest_then, rest_none}
-use Rattle.storing.proofs.Bytes.{number_near, number_next, number_none}
+use Rattle.filling.proofs.Puts.{put_then}
+use Rattle.storing.specs.Each.{Each, PutEach}
+use Rattle.storing.proofs.Rest.{nothing_put}
+use Rattle.storing.proofs.Bytes.{bytes_append}
 
--- of numbers vs, to be put over l at a place, i are put, which made it m, up to the place p
-pub record Walk (vs l : List ℕ) (at : ℕ) (m : List ℕ) (p i : ℕ) : Type 0 where
-  pub passed : i ≤ length vs
-  pub near : p ≤ at + 3 * i
-  pub left : Rest (bytes_of (drop i vs)) m p (bytes_of vs) l at
+module _ {A : Type 0} (converts : A → ℕ → Type 0) where
+  each_more : (xs : List A) (ns : List ℕ) (x : A) (n : ℕ) → Each converts xs ns → converts x n → Each converts (xs ++ (x ∷ [])) (ns ++ (n ∷ []))
+  each_more [] [] x n e h = (h, tt)
+  each_more [] (k ∷ ns) x n e h = absurd e
+  each_more (y ∷ xs) [] x n e h = absurd e
+  each_more (y ∷ xs) (k ∷ ns) x n e h = (e.0, each_more xs ns x n e.1 h)
 
-module _ {vs l : List ℕ} {at : ℕ} where
-  pub walk_starts : Walk vs l at l at 0
-  walk_starts = record { passed = omega arith; near = omega arith; left = rest_all }
+  pub each_none : (l : List ℕ) (at : ℕ) → PutEach converts [] l at l at
+  each_none l at = record { numbers = []; each = tt; put = nothing_put }
 
-  module _ {m : List ℕ} {p i : ℕ} (w : Walk vs l at m p i) where
-    pub walk_goes : {n : List ℕ} {next : ℕ} → i < length vs → Put (groups_of 3 (get_or vs i 0)) m p n next → Walk vs l at n next (i + 1)
-    walk_goes h q =
-        record {
-          passed = omega arith;
-          near = omega (arith, w.near, number_near (get_or vs i 0) q);
-          left = rest_then (rw (number_next vs i h) at w.left) q;
-        }
+  pub each_then :
+      (x : A) (n : ℕ) {xs : List A} {l : List ℕ} {at : ℕ} {m : List ℕ} {p : ℕ} {k : List ℕ} {next : ℕ} →
+      PutEach converts xs l at m p → converts x n → Put (groups_of 3 n) m p k next → PutEach converts (xs ++ (x ∷ [])) l at k next
+  each_then x n {xs} w h q =
+      record {
+        numbers = w.numbers ++ (n ∷ []);
+        each = each_more xs w.numbers x n w.each h;
+        put = rw (bytes_append w.numbers (n ∷ []), append-nil (groups_of 3 n)) (put_then w.put q);
+      }
 
-    pub walk_ends : length vs ≤ i → Put (bytes_of vs) l at m p
-    walk_ends h = rest_none (rw (number_none vs i h) at w.left)
+-- what converts to itself is put as it is
+same : (xs ns : List ℕ) → Each (λ x y. y ≡ x) xs ns → ns ≡ xs
+same [] [] e = refl
+same [] (n ∷ ns) e = absurd e
+same (x ∷ xs) [] e = absurd e
+same (x ∷ xs) (n ∷ ns) e = rw (e.0, same xs ns e.1) refl
+
+pub put_same : {xs l : List ℕ} {at : ℕ} {m : List ℕ} {next : ℕ} → PutEach (λ x y. y ≡ x) xs l at m next → Put (bytes_of xs) l at m next
+put_same {xs} w = rw (same xs w.numbers w.each) at w.put

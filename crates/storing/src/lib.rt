@@ -5,6 +5,7 @@ ghost use Rattle.std.specs.Prelude.{◌∷◌, ◌+◌, ◌*◌, ◌<◌, ◌^�
 ghost use Rattle.filling.specs.Filling.{Put};
 ghost use Rattle.wire.specs.Number.{groups_of};
 ghost use Rattle.writing.specs.Expressions.{bytes_of};
+ghost use Rattle.storing.specs.Each.{PutEach};
 
 use filling::put_byte;
 
@@ -17,43 +18,25 @@ pub fn put_number(out: &mut [u8], at: usize, v: u32) -> usize
     ensures { Put (groups_of 3 v) out.old at out.new result }
 {
     let mut left = v;
-    let mut i: usize = 0;
-    while i < MOST_GROUPS {
+    for i in 0..MOST_GROUPS {
         if left < 128 {
             put_byte(out, at + i, left as u8);
             return at + i + 1;
         }
         put_byte(out, at + i, 128 + ((left % 128) as u8));
         left /= 128;
-        i += 1;
     }
-    at + i
+    at + MOST_GROUPS
 }
 
-// Puts numbers one after the other.
-pub fn put_numbers(out: &mut [u8], at: usize, numbers: &[u32]) -> usize
+// Puts numbers one after the other: those of fields, or the bytes of an expression's nodes, operator first.
+pub fn put_numbers<T: Copy + Into<u32>>(out: &mut [u8], at: usize, numbers: &[T]) -> usize
     requires { at + 3 * length numbers.now < 2 ^ 64 }
-    ensures { Put (bytes_of numbers.now) out.old at out.new result }
+    ensures { PutEach T.converts numbers.now out.old at out.new result }
 {
     let mut p = at;
-    let mut i: usize = 0;
-    while i < numbers.len() {
-        p = put_number(out, p, numbers[i]);
-        i += 1;
-    }
-    p
-}
-
-// Puts the numbers of an expression's nodes, operator first.
-pub fn put_nodes(out: &mut [u8], at: usize, nodes: &[u8]) -> usize
-    requires { at + 3 * length nodes.now < 2 ^ 64 }
-    ensures { Put (bytes_of nodes.now) out.old at out.new result }
-{
-    let mut p = at;
-    let mut i: usize = 0;
-    while i < nodes.len() {
-        p = put_number(out, p, nodes[i] as u32);
-        i += 1;
+    for number in numbers {
+        p = put_number(out, p, (*number).into());
     }
     p
 }
@@ -63,6 +46,6 @@ pub fn put_row(out: &mut [u8], at: usize, kind: u8, fields: &[u32]) -> usize
     requires { at + 3 + 3 * length fields.now < 2 ^ 64 }
     ensures { Put (bytes_of (kind ∷ fields.now)) out.old at out.new result }
 {
-    let p = put_number(out, at, kind as u32);
+    let p = put_number(out, at, u32::from(kind));
     put_numbers(out, p, fields)
 }

@@ -8,12 +8,8 @@ ghost use Rattle.terms.specs.Words.{signed, hold_word};
 
 pub use refusal::{Fault, Refusal};
 
-// The numbers of refusal, by the names of specs/Refusals.
-pub const BAD_NUMBER: u8 = 1;
-
+// Numbers of refusal that are still told as such, by the names of specs/Refusals.
 pub const OUTSIDE: u8 = 2;
-
-pub const ASTRAY: u8 = 3;
 
 pub const OVER_MEMORY: u8 = 4;
 
@@ -22,8 +18,6 @@ pub const BAD_STATE: u8 = 5;
 pub const TOO_FAR: u8 = 6;
 
 pub const BAD_TEXT: u8 = 7;
-
-pub const CUT_NUMBER: u8 = 8;
 
 pub const SHORT_BUFFER: u8 = 12;
 

@@ -1,14 +1,16 @@
 -- Bytes that stand in a text: the test says so exactly, and it goes byte by byte. Assumes nothing.
-use Prim.Native.Nat.{ℕ, ◌+◌, ◌<◌, ◌≤◌}
-use mathlib.Core.Path.{◌≡◌, refl}
-use mathlib.Core.Bool.{true, false, ◌&&◌}
+use Prim.Native.Nat.{ℕ, suc, ◌+◌, ◌<◌, ◌≤◌}
+use mathlib.Core.Path.{◌≡◌, refl, sym, ◌∙◌}
+use mathlib.Core.Bool.{Bool, true, false, ◌&&◌}
 use mathlib.Core.Logic.{◌↔◌}
 use mathlib.Core.List.{List, [], ◌∷◌}
 use native.Mathlib.Numerals.{add-one}
 use lib.Dec.{ltb, eqb}
-use lib.ListN.{length, get_or, drop, drop_of_length-le}
+use native.Mathlib.Omega.{arith}
+use lib.ListN.{length, take, drop, drop_of_length-le}
+use lib.Pointwise.{pointwise}
 use lib.Seq.{drop-cons}
-use borrow.Author.Tests.{ltb-true, eqb-true, lt-ltb, le-ltb, eq-eqb, ne_eqb}
+use borrow.Author.Tests.{ltb-true, ltb-false, eqb-true, eqb-false, lt-ltb, le-ltb, eq-eqb, ne_eqb}
 use Rattle.terms.proofs.Choice.{both}
 use Rattle.wire.specs.Number.{byte_at}
 use Rattle.wire.specs.Facts.{Stands}
@@ -30,22 +32,28 @@ seen (b ∷ l) s at (i, (e, h)) = rw (lt-ltb at (length s) i, eq-eqb (byte_at s 
 pub stands_exactly : (l s : List ℕ) (at : ℕ) → stands_at l s at ≡ true ↔ Stands l s at
 stands_exactly l s at = (told l s at, seen l s at)
 
--- what is left of bytes from byte i on
-module _ (l s : List ℕ) (at i : ℕ) where
-  module _ (h : i < length l) where
-    pub stands_past : length s ≤ at → stands_at (drop i l) s at ≡ false
-    unfolding stands_at
-    stands_past p = rw (drop-cons l i 32 h, le-ltb at (length s) p)
+eqb_turned : (a b : ℕ) → eqb a b ≡ eqb b a
+eqb_turned a b = go (eqb a b) refl where
+  go : (t : Bool) → eqb a b ≡ t → eqb a b ≡ eqb b a
+  go true e = e ∙ sym (eq-eqb b a (sym (eqb-true a b e)))
+  go false e = e ∙ sym (ne_eqb b a (λ q. eqb-false a b e (sym q)))
 
-    module _ (p : at < length s) where
-      pub stands_not : (byte_at s at ≡ get_or l i 32 → ⊥) → stands_at (drop i l) s at ≡ false
-      unfolding stands_at
-      stands_not e = rw (drop-cons l i 32 h, lt-ltb at (length s) p, ne_eqb (byte_at s at) (get_or l i 32) e)
+-- bytes that a text begins with from a place on
+pub stands_first : (l s : List ℕ) (at : ℕ) → at ≤ length s → stands_at l s at ≡ pointwise eqb l (take (length l) (drop at s))
+unfolding stands_at
+stands_first [] s at h = refl
+stands_first (b ∷ l) s at h = go (ltb at (length s)) refl (λ (i : at < length s). stands_first l s (at + 1) (omega arith)) where
+  go :
+      (t : Bool) → ltb at (length s) ≡ t →
+      (at < length s → stands_at l s (at + 1) ≡ pointwise eqb l (take (length l) (drop (at + 1) s))) →
+      stands_at (b ∷ l) s at ≡ pointwise eqb (b ∷ l) (take (suc (length l)) (drop at s))
+  go true e rest =
+      let i = ltb-true at (length s) e in
+      rw (e, drop-cons s at 0 i, eqb_turned (byte_at s at) b, rest i, add-one at) refl
+  go false e rest = rw (e, drop_of_length-le s (ltb-false at (length s) e)) refl
 
-      pub stands_on : byte_at s at ≡ get_or l i 32 → stands_at (drop i l) s at ≡ stands_at (drop (i + 1) l) s (at + 1)
-      unfolding stands_at
-      stands_on e = rw (add-one i, drop-cons l i 32 h, lt-ltb at (length s) p, eq-eqb (byte_at s at) (get_or l i 32) e)
-
-  pub stands_all : length l ≤ i → stands_at (drop i l) s at ≡ true
-  unfolding stands_at
-  stands_all h = rw (drop_of_length-le l h)
+-- no bytes but none stand behind the end
+pub stands_past : (l s : List ℕ) (at : ℕ) → 0 < length l → length s < at → stands_at l s at ≡ false
+unfolding stands_at
+stands_past [] s at n h = absurd (omega arith)
+stands_past (b ∷ l) s at n h = rw (le-ltb at (length s) (omega arith)) refl

@@ -1,12 +1,10 @@
 // The words of a listing: names of fields, ALARMS, and the letters of the kinds.
 #![tactic(auto)]
 
-ghost use Rattle.std.specs.Prelude.{◌≡◌, ◌+◌, ◌<◌, ◌^◌, length, get_or};
+ghost use Rattle.std.specs.Prelude.{◌≡◌, ◌+◌, ◌<◌, ◌^◌, length};
 ghost use Rattle.filling.specs.Filling.{Put};
 ghost use Rattle.words.specs.Words.{word_count, word_text};
 ghost use Rattle.words.specs.Standing.{stands_at};
-
-use filling::put_byte;
 
 // The words, by the numbers of specs/Words.
 pub const S: u8 = 0;
@@ -54,21 +52,48 @@ pub const ALARMS: u8 = 20;
 // The letters of kind 0; those of the other kinds come after them.
 pub const LETTERS: u8 = 21;
 
-// No word is longer.
-const WIDTH: usize = 8;
-
-// Byte i of a word; behind its last a space.
-fn letter(word: u8, i: usize) -> u8
-    requires { (word < word_count) × (i < 8) }
-    ensures { result ≡ get_or (word_text word) i 32 }
+// The letters of a word.
+#[tactic(auto, unfolding(crate::specs::Words::word_text))]
+fn text_of(word: u8) -> &'static [u8]
+    requires { word < word_count }
+    ensures { result.now ≡ word_text word }
 {
-    let words = b"S       R       PRIORITYI       MODE    C       UNIT    \
-        ON      OFF     TIME    PRESET  U       D       P       \
-        RELATIONA       B       X       L       H       ALARMS  \
-        BL      SR      PL      AL      DL      OS      FL      \
-        CN      UD      CP      OG      ZC      ST      ";
-    let at = (word as usize) * WIDTH + i;
-    words[at]
+    match word {
+        S => b"S",
+        R => b"R",
+        PRIORITY => b"PRIORITY",
+        I => b"I",
+        MODE => b"MODE",
+        C => b"C",
+        UNIT => b"UNIT",
+        ON => b"ON",
+        OFF => b"OFF",
+        TIME => b"TIME",
+        PRESET => b"PRESET",
+        U => b"U",
+        D => b"D",
+        P => b"P",
+        RELATION => b"RELATION",
+        A => b"A",
+        B => b"B",
+        X => b"X",
+        L => b"L",
+        H => b"H",
+        ALARMS => b"ALARMS",
+        LETTERS => b"BL",
+        22 => b"SR",
+        23 => b"PL",
+        24 => b"AL",
+        25 => b"DL",
+        26 => b"OS",
+        27 => b"FL",
+        28 => b"CN",
+        29 => b"UD",
+        30 => b"CP",
+        31 => b"OG",
+        32 => b"ZC",
+        _ => b"ST",
+    }
 }
 
 // How many bytes a word has.
@@ -76,14 +101,7 @@ pub fn word_size(word: u8) -> usize
     requires { word < word_count }
     ensures { result ≡ length (word_text word) }
 {
-    let mut size: usize = 0;
-    while size < WIDTH {
-        if letter(word, size) == b' ' {
-            return size;
-        }
-        size += 1;
-    }
-    size
+    text_of(word).len()
 }
 
 // Puts a word at a place, and answers the place after it.
@@ -91,13 +109,7 @@ pub fn put_word(out: &mut [u8], at: usize, word: u8) -> usize
     requires { (word < word_count) × (at + 8 < 2 ^ 64) }
     ensures { Put (word_text word) out.old at out.new result }
 {
-    let size = word_size(word);
-    let mut i: usize = 0;
-    while i < size {
-        put_byte(out, at + i, letter(word, i));
-        i += 1;
-    }
-    at + size
+    filling::put(out, at, text_of(word))
 }
 
 // Whether a word stands in a text at a place.
@@ -105,18 +117,8 @@ pub fn word_at(text: &[u8], at: usize, word: u8) -> bool
     requires { word < word_count }
     ensures { result ≡ stands_at (word_text word) text.now at }
 {
-    let letters = word_size(word);
-    let mut p = at;
-    let mut k: usize = 0;
-    while k < letters {
-        if text.len() <= p {
-            return false; // the text ends within the word
-        }
-        if text[p] != letter(word, k) {
-            return false;
-        }
-        p += 1;
-        k += 1;
+    match text.get(at..) {
+        Some(rest) => rest.starts_with(text_of(word)),
+        None => false,
     }
-    true
 }

@@ -1,6 +1,5 @@
-use mathlib.Core.Path.{refl, ◌∙◌}
 use native.Mathlib.Omega.{arith}
-use Rattle.filling.proofs.Puts.{put_then, put_length}
+use Rattle.filling.proofs.Puts.{put_then}
 use Rattle.numbers.specs.Types.{block_count}
 use Rattle.numbers.proofs.Typed.{typed_below}
 use Rattle.listing.proofs.Blocks.{line_short}
@@ -13,8 +12,6 @@ loop-i-init c =
       there = rw (by_count k s e) at c.requires;
       rest = λ m d p. rw (listed_from k s e) at p;
       few = omega (arith, typed_below k block_count 0 s 0 e);
-      passed = omega arith;
-      places = refl;
       within = omega arith;
     }
 
@@ -24,8 +21,6 @@ loop-i-preserved c =
       there = rw line.place (rest_there k s c.loop-i.at _ c.loop-i.i h inv.there);
       rest = λ m d q. inv.rest m d (rw (lines_on k s c.loop-i.at _ c.loop-i.i h inv.there) (put_then line.text (rw line.place at q)));
       few = inv.few;
-      passed = omega arith;
-      places = put_length line.text ∙ inv.places;
       within = omega (arith, inv.within, line.text.place, line_short k s c.loop-i.at c.loop-i.i);
     }
 
@@ -48,7 +43,3 @@ read_known-n-requires c =
 pub overflow_cast-count : goal.overflow_cast-count
 overflow_cast-count c =
     omega (arith, typed_below _ block_count 0 _ 0 c.read_known-n.ensures)
-
-pub overflow_add-i : goal.overflow_add-i
-overflow_add-i c =
-    omega (arith, c.loop-i.invariant.few)

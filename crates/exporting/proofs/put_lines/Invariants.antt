@@ -1,8 +1,6 @@
 -- `exporting::put_lines` meets its contract. The loop's invariant: what is left of the lines, put after what is put already, is the whole listing.
 use Prim.Native.Nat.{ℕ, ◌-◌, ◌*◌, ◌≤◌}
-use mathlib.Core.Path.{◌≡◌}
 use mathlib.Core.List.{List}
-use lib.ListN.{length}
 use Rattle.wire.specs.Reading.{IsGot}
 use Rattle.filling.specs.Filling.{Put}
 use Rattle.numbers.specs.Reading.{Marks}
@@ -14,12 +12,7 @@ pub record Going (k : Marks) (s : List ℕ) (l : List ℕ) (count : ℕ) (out : 
   pub there : IsGot (after_count k (count - i) s at)
   pub rest : (m : List ℕ) (e : ℕ) → Put (lines_in i (after_count k (count - i) s at)) out to m e → Put (listed_in (program_at k s)) l 0 m e
   pub few : count ≤ 200
-  pub passed : i ≤ count
-  pub places : length out ≡ length l
   pub within : to ≤ 500 * i
 
 abbrev pub invariant-loop-i : goal.invariant-loop-i
 invariant-loop-i l = Going l.marks l.s l.initial.out l.count l.out l.at l.to l.i
-
-abbrev pub decreases-loop-i : goal.decreases-loop-i
-decreases-loop-i l = l.count - l.i

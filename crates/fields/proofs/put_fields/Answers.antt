@@ -1,8 +1,7 @@
 use Prim.Native.Nat.{◌<◌}
-use mathlib.Core.Path.{refl, ◌∙◌}
 use native.Mathlib.Omega.{arith}
 use lib.ListN.{length, get_or}
-use Rattle.filling.proofs.Puts.{put_none, put_then, put_length}
+use Rattle.filling.proofs.Puts.{put_none, put_then}
 use Rattle.kinds.specs.Kinds.{fields_of}
 use Rattle.columns.specs.Columns.{field_of}
 use Rattle.columns.proofs.Rows.{fields_few}
@@ -12,15 +11,13 @@ use Rattle.fields.proofs.put_fields.Goals as goal
 
 pub loop-i-init : goal.loop-i-init
 loop-i-init c =
-    record { all = c.count_of-count.ensures; passed = omega arith; places = refl; within = omega arith; rest = λ m e p. p }
+    record { all = c.count_of-count.ensures; within = omega arith; rest = λ m e p. p }
 
 pub loop-i-preserved : goal.loop-i-preserved
 loop-i-preserved c =
-    let inv = c.loop-i.invariant in let i = c.loop-i.i in let p = c.put_field-next.ensures in let h : i < length (fields_of c.args.kind) = omega arith in
+    let inv = c.loop-i.invariant in let i = c.loop-i.i in let p = rw c.from.ensures at c.put_field-next.ensures in let h : i < length (fields_of c.args.kind) = omega arith in
     record {
       all = inv.all;
-      passed = omega arith;
-      places = put_length p ∙ inv.places;
       within = omega (arith, inv.within, p.place, field_short (field_of c.args.kind i) (get_or c.args.fields i 0));
       rest = λ m e q. inv.rest m e (rw (codes_on (fields_of c.args.kind) c.args.fields i h (omega (arith, fields_few c.args.kind))) (put_then p q));
     }
@@ -37,10 +34,6 @@ pub count_of-count-requires : goal.count_of-count-requires
 count_of-count-requires c =
     c.requires.1.0
 
-pub bounds-fields-i : goal.bounds-fields-i
-bounds-fields-i c =
-    omega (arith, c.loop-i.invariant.all, fields_few c.args.kind)
-
-pub overflow_add-i : goal.overflow_add-i
-overflow_add-i c =
-    omega (arith, c.loop-i.invariant.all, fields_few c.args.kind)
+pub bounds-fields-from : goal.bounds-fields-from
+bounds-fields-from c =
+    omega (arith, c.from.ensures, c.loop-i.invariant.all, fields_few c.args.kind)

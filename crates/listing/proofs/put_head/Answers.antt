@@ -6,4 +6,4 @@ use Rattle.listing.proofs.put_head.Goals as goal
 pub returns : goal.returns
 unfolding name_of
 returns c =
-    put_then c.put_three_digits-numbered.ensures (put_behind c.put_byte.ensures c.put_word.ensures)
+    put_then (rw c.from.ensures at c.put_numbered-numbered.ensures) (put_behind c.put_byte.ensures c.put_word.ensures)

@@ -1,19 +1,20 @@
 -- `printing::put_value` meets its contract, by the type of the field.
+use native.Mathlib.Omega.{arith}
 use borrow.Author.Tests.{ne_eqb}
 use Rattle.values.specs.Values.{value_text}
 use Rattle.printing.proofs.put_value.Goals as goal
 
-pub returns-then-ty-eq-PIN : goal.returns-then-ty-eq-PIN
+pub returns-in-0 : goal.returns-in-0
 unfolding value_text
-returns-then-ty-eq-PIN c =
-    rw c.if-ty-eq-PIN.true c.put_name.ensures
+returns-in-0 c =
+    rw c.in-0.is c.put_name.ensures
 
-pub returns-then-ty-eq-WORD_PIN : goal.returns-then-ty-eq-WORD_PIN
+pub returns-in-1 : goal.returns-in-1
 unfolding value_text
-returns-then-ty-eq-WORD_PIN c =
-    rw c.if-ty-eq-WORD_PIN.true c.put_word.ensures
+returns-in-1 c =
+    rw c.in-1.is c.put_word.ensures
 
-pub returns : goal.returns
+pub returns-in_default : goal.returns-in_default
 unfolding value_text
-returns c =
-    rw (ne_eqb _ _ c.if-ty-eq-PIN.false, ne_eqb _ _ c.if-ty-eq-WORD_PIN.false, ← c.bias_of-bias.ensures) c.put_signed.ensures
+returns-in_default c =
+    rw (ne_eqb c.args.ty 0 (omega arith), ne_eqb c.args.ty 1 (omega arith), ← c.bias_of.ensures) c.put_signed.ensures

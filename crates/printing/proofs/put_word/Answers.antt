@@ -1,20 +1,21 @@
 -- `printing::put_word` meets its contract, by the ranges of a word reference.
+use native.Mathlib.Omega.{arith}
 use borrow.Author.Tests.{lt-ltb, le-ltb}
 use Rattle.numbers.specs.Types.{word_ref}
 use Rattle.values.specs.Values.{word_name}
 use Rattle.printing.proofs.put_word.Goals as goal
 
-pub returns-then-v-lt8 : goal.returns-then-v-lt8
+pub returns-in-0-to-7 : goal.returns-in-0-to-7
 unfolding word_ref word_name
-returns-then-v-lt8 c =
-    rw (lt-ltb _ _ c.if-v-lt8.true) c.put_two_digits.ensures
+returns-in-0-to-7 c =
+    rw (lt-ltb c.args.v 8 (omega arith)) c.put_numbered.ensures
 
-pub returns-then-v-lt208 : goal.returns-then-v-lt208
+pub returns-in-8-to-207 : goal.returns-in-8-to-207
 unfolding word_ref word_name
-returns-then-v-lt208 c =
-    rw (le-ltb _ _ c.if-v-lt8.false, lt-ltb _ _ c.if-v-lt208.true) c.put_three_digits.ensures
+returns-in-8-to-207 c =
+    rw (le-ltb c.args.v 8 (omega arith), lt-ltb c.args.v 208 (omega arith)) c.put_numbered-in-8-to-207.ensures
 
-pub returns : goal.returns
+pub returns-in_default : goal.returns-in_default
 unfolding word_ref word_name
-returns c =
-    rw (le-ltb _ _ c.if-v-lt8.false, le-ltb _ _ c.if-v-lt208.false) c.put_signed.ensures
+returns-in_default c =
+    rw (le-ltb c.args.v 8 (omega arith), le-ltb c.args.v 208 (omega arith)) c.put_signed.ensures

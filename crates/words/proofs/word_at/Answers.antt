@@ -1,30 +1,20 @@
-use mathlib.Core.Path.{refl, sym, ◌∙◌}
+-- `words::word_at` meets its contract: the text begins with the word from that place on.
+use mathlib.Core.Path.{◌≡◌, sym, ◌∙◌}
 use native.Mathlib.Omega.{arith}
-use Rattle.words.proofs.Letters.{word_short}
-use Rattle.words.proofs.Standing.{stands_on, stands_not, stands_past, stands_all}
+use borrow.Author.Rules.{part_to_end}
+use lib.ListN.{drop}
+use Rattle.words.specs.Words.{word_text}
+use Rattle.words.proofs.Letters.{word_filled}
+use Rattle.words.proofs.Standing.{stands_first, stands_past}
 use Rattle.words.proofs.word_at.Goals as goal
 
-pub loop-k-init : goal.loop-k-init
-loop-k-init c =
-    let e = c.word_size-letters.ensures in record { whole = e; short = omega (arith, word_short _ c.requires); passed = omega arith; same = refl }
+pub returns-in-Some : goal.returns-in-Some
+returns-in-Some c =
+    let a = c.args in let k = c.in-Some.ensures.lookup.0 in
+    let e : c.in-Some.rest.now ≡ drop a.at a.text.now = k.2 ∙ part_to_end a.text.now a.at in
+    rw (stands_first (word_text a.word) a.text.now a.at k.0, ← e, ← c.text_of.ensures) c.starts_with.ensures.value
 
-pub returns-then-text-p : goal.returns-then-text-p
-returns-then-text-p c =
-    let l = c.loop-k in sym (stands_past _ _ l.p l.k (omega arith) (omega arith)) ∙ l.invariant.same
-
-pub returns-then-text-p-2 : goal.returns-then-text-p-2
-returns-then-text-p-2 c =
-    let l = c.loop-k in sym (stands_not _ _ l.p l.k (omega arith) (omega arith) (λ e. omega (arith, c.letter.ensures))) ∙ l.invariant.same
-
-pub loop-k-preserved : goal.loop-k-preserved
-loop-k-preserved c =
-    let l = c.loop-k in record {
-      whole = l.invariant.whole;
-      short = l.invariant.short;
-      passed = omega arith;
-      same = sym (stands_on _ _ l.p l.k (omega arith) (omega arith) (omega (arith, c.letter.ensures))) ∙ l.invariant.same;
-    }
-
-pub returns : goal.returns
-returns c =
-    let l = c.loop-k in sym (stands_all _ _ l.p l.k (omega arith)) ∙ l.invariant.same
+pub returns-in-None : goal.returns-in-None
+returns-in-None c =
+    let a = c.args in
+    sym (stands_past (word_text a.word) a.text.now a.at (omega (arith, word_filled a.word c.requires)) (omega (arith, c.in-None.ensures.lookup.0)))

@@ -1,0 +1,5 @@
+-- `filling::put_decimal` meets its contract, down the number.
+use Rattle.filling.proofs.+put_decimal.Given as goal
+
+abbrev pub decreases-put_decimal : goal.decreases-put_decimal
+decreases-put_decimal l = l.n

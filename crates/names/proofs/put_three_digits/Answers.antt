@@ -1,6 +1,0 @@
--- `names::put_three_digits` meets its contract: the bytes are the definition's.
-use Rattle.names.proofs.put_three_digits.Goals as goal
-
-pub returns : goal.returns
-returns c =
-    c.put.ensures
