@@ -3,7 +3,7 @@ use Prim.Native.Nat.{ℕ, ◌+◌}
 use mathlib.Core.Path.{◌≡◌, sym, ap, ◌∙◌}
 use mathlib.Core.List.{List}
 use native.Mathlib.Omega.{arith}
-use Rattle.std.specs.Prelude.{Result, Ok, Err}
+use Rattle.std.specs.Prelude.{Result, Ok, Err, Option, Some, None}
 use Rattle.numbers.specs.Blocks.{Expr}
 use Rattle.grammar.proofs.Builds.{one_reading}
 use Rattle.grammar.proofs.Places.{one_place}
@@ -13,8 +13,6 @@ use Rattle.typed.proofs.Answering.{one_answer}
 use Rattle.lanwezik.specs.declared.Expression.{Expression}
 use Rattle.lanwezik.specs.Answers.{expression, Formulas, formulas}
 use Rattle.playback.specs.Playback.{Stage, Fed}
-use Rattle.reading.specs.declared.Input.{Input}
-use Rattle.reading.specs.declared.Input.TheVariants.{Bytes, End, Failed}
 use Rattle.keeping.specs.declared.Keep.{Keep}
 use Rattle.keeping.specs.Keeping.{Kept}
 use Rattle.intake.specs.Intake.{Ended, WentOn, fails, ends, reads}
@@ -36,23 +34,23 @@ ended_same h k =
     (h.answer ∙ sym k.answer, same_two (h.buffer ∙ sym k.buffer) (same_two (h.program ∙ sym k.program) (h.lines ∙ sym k.lines)))
 
 -- the rows of what a read gave exclude one another
-abbrev pub row : Input → ℕ
-row Failed = 0
-row End = 1
-row (Bytes n) = 2 + n
+abbrev pub row : {E : Type 0} → Result (Option ℕ) E → ℕ
+row (Err e) = 0
+row (Ok None) = 1
+row (Ok (Some n)) = 2 + n
 
-pub rows : {got x y : Input} → got ≡ x → got ≡ y → row x ≡ row y
+pub rows : {E : Type 0} {got x y : Result (Option ℕ) E} → got ≡ x → got ≡ y → row x ≡ row y
 rows e f = ap row (sym e ∙ f)
 
-pub went_same : {got : Input} {g : Stage} {k : ℕ} {b p l : List ℕ} {d d' q q' m m' : List ℕ} {r r' : Keep} →
+pub went_same : {E : Type 0} {got : Result (Option ℕ) E} {g : Stage} {k : ℕ} {b p l : List ℕ} {d d' q q' m m' : List ℕ} {r r' : Keep} →
     WentOn got g k b d p q l m r → WentOn got g k b d' p q' l m' r' → Same r r' d d' q q' m m'
-went_same (fails e h) (fails f k) = ended_same h k
-went_same (fails e h) (ends f k) = absurd (omega (arith, rows e f))
-went_same (fails e h) (reads n f k) = absurd (omega (arith, rows e f))
-went_same (ends e h) (fails f k) = absurd (omega (arith, rows e f))
+went_same (fails x e h) (fails y f k) = ended_same h k
+went_same (fails x e h) (ends f k) = absurd (omega (arith, rows e f))
+went_same (fails x e h) (reads n f k) = absurd (omega (arith, rows e f))
+went_same (ends e h) (fails y f k) = absurd (omega (arith, rows e f))
 went_same (ends e h) (ends f k) = ended_same h k
 went_same (ends e h) (reads n f k) = absurd (omega (arith, rows e f))
-went_same (reads n e h) (fails f k) = absurd (omega (arith, rows e f))
+went_same (reads n e h) (fails y f k) = absurd (omega (arith, rows e f))
 went_same (reads n e h) (ends f k) = absurd (omega (arith, rows e f))
 went_same (reads n e h) (reads o f k) = let same : o ≡ n = omega (arith, rows e f) in kept_same h (rw same at k)
 

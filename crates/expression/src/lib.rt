@@ -27,7 +27,7 @@ fn truths_of(op: u32) -> u32
 fn gate(op: u32, x: bool, y: bool) -> bool
     ensures { result ≡ gate_of op x y }
 {
-    let k = 2 * (x as u32) + (y as u32);
+    let k = 2 * u32::from(x) + u32::from(y);
     (truths_of(op) >> k) % 2 == 1
 }
 
@@ -50,7 +50,7 @@ fn skips_of(op: u32) -> u32
 fn skips(op: u32, x: bool) -> bool
     ensures { result ≡ skips_of op x }
 {
-    (skips_of(op) >> (x as u32)) % 2 == 1
+    (skips_of(op) >> u32::from(x)) % 2 == 1
 }
 
 // The value of an expression, its steps, the place after it and the nodes left.
@@ -64,6 +64,7 @@ pub struct Value {
 
 // The expression at a place, where `depth` levels and `left` nodes are left and `bits` has what each bit reference reads as.
 #[cycle(eval_part_second)]
+#[tactic(auto, using(nodes::proofs::Expressions::reading, numbers::proofs::References::bit_code_lem, crate::proofs::Laws::valuing))]
 pub fn eval(
     s: &[u8],
     at: usize,
@@ -98,6 +99,7 @@ pub fn eval(
 }
 
 // Passes over a part: a leaf at once.
+#[tactic(auto, using(nodes::proofs::Expressions::reading))]
 fn skip(s: &[u8], at: usize, depth: u8, left: u8, marks: &[u8; 200]) -> Result<(u8, usize), Fault>
     ensures { passed_of_answer result ≡ passed left (expr_at marks.now depth left s.now at) }
 {
@@ -109,6 +111,7 @@ fn skip(s: &[u8], at: usize, depth: u8, left: u8, marks: &[u8; 200]) -> Result<(
 
 // The second part of an operator whose first part came to x in p steps.
 #[cycle(eval_part_second)]
+#[tactic(auto, using(crate::proofs::Laws::joining))]
 fn second(
     s: &[u8],
     at: usize,
@@ -142,6 +145,7 @@ fn second(
 
 // A part of an operator: a leaf is answered at once, anything else is evaluated.
 #[cycle(eval_part_second)]
+#[tactic(auto, using(nodes::proofs::Expressions::reading, numbers::proofs::References::bit_code_lem))]
 fn part(
     s: &[u8],
     at: usize,

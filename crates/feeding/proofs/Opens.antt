@@ -5,6 +5,7 @@ use mathlib.Core.List.{List, append-nil}
 use native.Mathlib.Omega.{arith}
 use lib.ListN.{length, take, drop}
 use lib.Seq.{sets, sets-eq, length-sets, take_at}
+use Rattle.std.specs.Prelude.{Result, Ok, Err}
 use Rattle.text.specs.Text.{Put}
 use Rattle.text.proofs.Texts.{put_length}
 use Rattle.image.specs.State.{fresh_state}
@@ -13,8 +14,8 @@ use Rattle.playback.specs.Playback.{Came, bad_program, refused, opening, over, F
 use Rattle.playback.specs.Playback.{played}
 use Rattle.playback.specs.Playback.{Opening, opens, refuses_it, fails_it, waits_it, opening_in, opened_to}
 use Rattle.playback.specs.Answers.{opened_as, copied, OpenedIn}
-use Rattle.playback.specs.declared.Opened.{Opened}
-use Rattle.playback.specs.declared.Opened.TheVariants.{Opens, Refused, Bad, Waits}
+use Rattle.playback.specs.declared.Halt.{Halt}
+use Rattle.playback.specs.declared.Halt.TheVariants.{Refused, Bad, Waits}
 use Rattle.playback.proofs.Openings.{opens_fit}
 use Rattle.telling.specs.Lines.{line_for}
 use Rattle.feeding.specs.Answers.{stage_of, FedOn}
@@ -28,40 +29,37 @@ copied_there : (program p : List ℕ) → length program ≤ length p → take (
 copied_there program p h = rw (sets-eq program p 0 (omega arith)) (take_at program (drop (0 + length program) p) (length program) refl)
 
 -- what was opened, by the answer
-is_waiting : (o : Opening) → opened_as o ≡ Waits → o ≡ waits_it
-is_waiting (opens program next) e = let z : ◌≡◌ {A = ℕ} 0 1 = cc in absurd (omega arith)
-is_waiting (refuses_it n at) e = let z : ◌≡◌ {A = ℕ} 0 1 = cc in absurd (omega arith)
-is_waiting fails_it e = let z : ◌≡◌ {A = ℕ} 0 1 = cc in absurd (omega arith)
+is_waiting : (o : Opening) → opened_as o ≡ Err Waits → o ≡ waits_it
+is_waiting (opens program next) e = cc
+is_waiting (refuses_it n at) e = cc
+is_waiting fails_it e = cc
 is_waiting waits_it e = refl
 
-is_bad : (o : Opening) → opened_as o ≡ Bad → o ≡ fails_it
-is_bad (opens program next) e = let z : ◌≡◌ {A = ℕ} 0 1 = cc in absurd (omega arith)
-is_bad (refuses_it n at) e = let z : ◌≡◌ {A = ℕ} 0 1 = cc in absurd (omega arith)
+is_bad : (o : Opening) → opened_as o ≡ Err Bad → o ≡ fails_it
+is_bad (opens program next) e = cc
+is_bad (refuses_it n at) e = cc
 is_bad fails_it e = refl
-is_bad waits_it e = let z : ◌≡◌ {A = ℕ} 0 1 = cc in absurd (omega arith)
+is_bad waits_it e = cc
 
-is_refused : (o : Opening) {n at : ℕ} → opened_as o ≡ Refused n at → o ≡ refuses_it n at
-is_refused (opens program next) e = let z : ◌≡◌ {A = ℕ} 0 1 = cc in absurd (omega arith)
-is_refused (refuses_it k p) {n} {at} e =
-    let en : k ≡ n = cc in
-    let ea : p ≡ at = cc in
-    rw (en, ea)
-is_refused fails_it e = let z : ◌≡◌ {A = ℕ} 0 1 = cc in absurd (omega arith)
-is_refused waits_it e = let z : ◌≡◌ {A = ℕ} 0 1 = cc in absurd (omega arith)
+is_refused : (o : Opening) {n at : ℕ} → opened_as o ≡ Err (Refused n at) → o ≡ refuses_it n at
+is_refused (opens program next) e = cc
+is_refused (refuses_it k p) e = cc
+is_refused fails_it e = cc
+is_refused waits_it e = cc
 
 data Open (o : Opening) (size next : ℕ) : Type 0 where
   open_at : (program : List ℕ) → o ≡ opens program next → length program ≡ size → Open o size next
 
-is_open : (o : Opening) {size next : ℕ} → opened_as o ≡ Opens size next → Open o size next
+is_open : (o : Opening) {size next : ℕ} → opened_as o ≡ Ok (size, next) → Open o size next
 is_open (opens program k) {size} {next} e =
-    let es : length program ≡ size = cc in
-    let en : k ≡ next = cc in
-    open_at program (rw en) es
-is_open (refuses_it k p) e = let z : ◌≡◌ {A = ℕ} 0 1 = cc in absurd (omega arith)
-is_open fails_it e = let z : ◌≡◌ {A = ℕ} 0 1 = cc in absurd (omega arith)
-is_open waits_it e = let z : ◌≡◌ {A = ℕ} 0 1 = cc in absurd (omega arith)
+    let same : ◌≡◌ {A = ℕ × ℕ} (length program, k) (size, next) = cc in
+    let k_is : k ≡ next = ap (λ (x : ℕ × ℕ). x.1) same in
+    open_at program (rw k_is) (ap (λ (x : ℕ × ℕ). x.0) same)
+is_open (refuses_it k p) e = cc
+is_open fails_it e = cc
+is_open waits_it e = cc
 
-module _ (w p : List ℕ) {q : List ℕ} {o : Opened} (h : OpenedIn (opening_in w) p q o) where
+module _ (w p : List ℕ) {q : List ℕ} {o : Result (ℕ × ℕ) Halt} (h : OpenedIn (opening_in w) p q o) where
   abbrev FedSo : List ℕ → List ℕ → FedAnswer → Type 0
   FedSo l m r = FedOn opening (fed opening w) w p q l m r
 
@@ -74,7 +72,7 @@ module _ (w p : List ℕ) {q : List ℕ} {o : Opened} (h : OpenedIn (opening_in 
   unfolding fed
   comes e = ap (opened_to w) e
 
-  pub waits_open : {l : List ℕ} → o ≡ Waits → FedSo l l (record { player = player_of opening; used = 0; to = 0 })
+  pub waits_open : {l : List ℕ} → o ≡ Err Waits → FedSo l l (record { player = player_of opening; used = 0; to = 0 })
   waits_open e =
       so (comes (is_waiting (opening_in w) (sym h.answer ∙ e)))
       (told_so (pausing opening w) w refl (record { bytes = refl; place = refl }) refl (omega arith) (omega arith)) refl
@@ -83,19 +81,19 @@ module _ (w p : List ℕ) {q : List ℕ} {o : Opened} (h : OpenedIn (opening_in 
   line_fits : {l m : List ℕ} {to : ℕ} (c : Came) → Roomy w l → Put (line_for c) l 0 m to → to ≤ length m
   line_fits c roomy put = omega (arith, roomy, came_short c, put.place, put_length put)
 
-  pub bad_open : {l m : List ℕ} {to : ℕ} → Roomy w l → o ≡ Bad → Put (line_for bad_program) l 0 m to
+  pub bad_open : {l m : List ℕ} {to : ℕ} → Roomy w l → o ≡ Err Bad → Put (line_for bad_program) l 0 m to
       → FedSo l m (record { player = player_of over; used = length w; to = to })
   bad_open roomy e put =
       so (comes (is_bad (opening_in w) (sym h.answer ∙ e)))
       (told_so (ending bad_program) w (append-nil (line_for bad_program)) put refl (omega arith) (line_fits bad_program roomy put)) refl
 
-  pub refused_open : {n at : ℕ} {l m : List ℕ} {to : ℕ} → Roomy w l → o ≡ Refused n at → Put (line_for (refused n at)) l 0 m to
+  pub refused_open : {n at : ℕ} {l m : List ℕ} {to : ℕ} → Roomy w l → o ≡ Err (Refused n at) → Put (line_for (refused n at)) l 0 m to
       → FedSo l m (record { player = player_of over; used = length w; to = to })
   refused_open {n} {at} roomy e put =
       so (comes (is_refused (opening_in w) (sym h.answer ∙ e)))
       (told_so (ending (refused n at)) w (append-nil (line_for (refused n at))) put refl (omega arith) (line_fits (refused n at) roomy put)) refl
 
-  module _ {size next : ℕ} (e : o ≡ Opens size next) (room : program_bytes ≤ length p) where
+  module _ {size next : ℕ} (e : o ≡ Ok (size, next)) (room : program_bytes ≤ length p) where
     opened : Open (opening_in w) size next
     opened = is_open (opening_in w) (sym h.answer ∙ e)
 

@@ -17,11 +17,10 @@ use Rattle.playback.specs.Playback.{Stage, playing, over, pausing, fed}
 use Rattle.playback.specs.Playback.{runs, refuses, turn_by, turn_of, played_by, played_in, played}
 use Rattle.playback.specs.Playback.{Opening, opens, refuses_it, fails_it, waits_it, opening_in, opened_to}
 use Rattle.playback.proofs.Openings.{opens_fit}
-use Rattle.feeding.specs.Answers.{stage_by, stage_of, FedOn}
-use Rattle.telling.specs.declared.Phase.{Phase}
-use Rattle.telling.specs.declared.Phase.TheVariants.{Opening as IsOpening, Playing, Over}
+use Rattle.feeding.specs.Answers.{stage_of, FedOn}
 use Rattle.telling.specs.declared.Player.{Player}
-use Rattle.telling.specs.Answers.{player_of, Told}
+use Rattle.telling.specs.declared.Player.TheVariants.{Opening as IsOpening, Playing, Over}
+use Rattle.telling.specs.Answers.{player_of, Held, Told}
 use Rattle.telling.specs.declared.Fed.{Fed as FedAnswer}
 use Rattle.windows.proofs.Rests.{left_is}
 use Rattle.telling.proofs.Turns.{told_so}
@@ -77,26 +76,23 @@ over_fed w p l =
     told_so (pausing over []) w refl (record { bytes = refl; place = refl }) refl (omega arith) (omega arith) in
     record { told = t; program = refl; stage = refl; left = left_told over w t }
 
--- the program of a player stays as small as its buffer
-keeps_small : {program : List ℕ} {n : ℕ} {g : Stage} → length program ≤ n → Keeps program g → (player_of g).size ≤ n
-keeps_small h (plays st) = h
-keeps_small h ended = omega arith
+-- the program of a player stays within its buffer
+keeps_held : {program : List ℕ} (p : List ℕ) {g : Stage} → length program ≤ length p → Keeps program g → Held (player_of g) p
+keeps_held p h (plays st) = h
+keeps_held p h ended = tt
 
-open_small : (w : List ℕ) {n : ℕ} → program_bytes ≤ n → (o : Opening) → opening_in w ≡ o → (player_of (opened_to w o).stage).size ≤ n
-open_small w h (opens program next) e =
+open_held : (w p : List ℕ) → program_bytes ≤ length p → (o : Opening) → opening_in w ≡ o → Held (player_of (opened_to w o).stage) p
+open_held w p h (opens program next) e =
     let f = opens_fit w e in
-    keeps_small (omega (arith, f.0)) (keeps program fresh_state (drop next w))
-open_small w h (refuses_it k at) e = omega arith
-open_small w h fails_it e = omega arith
-open_small w h waits_it e = omega arith
+    keeps_held p (omega (arith, f.0)) (keeps program fresh_state (drop next w))
+open_held w p h (refuses_it k at) e = tt
+open_held w p h fails_it e = tt
+open_held w p h waits_it e = tt
 
-pub stays_small : (a : Player) (p w : List ℕ) → program_bytes ≤ length p → a.size ≤ length p → (player_of (fed (stage_of a p) w).stage).size ≤ length p
+pub stays_held : (a : Player) (p w : List ℕ) → program_bytes ≤ length p → Held a p → Held (player_of (fed (stage_of a p) w).stage) p
 unfolding fed
-stays_small a p w h k = go a.phase
-  where
-    go : (f : Phase) → (player_of (fed (stage_by f a.size a.state p) w).stage).size ≤ length p
-    go IsOpening = open_small w h (opening_in w) refl
-    go Playing =
-        let l : length (take a.size p) ≤ length p = rw (length-take-le a.size p k) k in
-        keeps_small l (keeps (take a.size p) a.state w)
-    go Over = omega arith
+stays_held IsOpening p w h k = open_held w p h (opening_in w) refl
+stays_held (Playing size st) p w h k =
+    let l : length (take size p) ≤ length p = rw (length-take-le size p k) k in
+    keeps_held p l (keeps (take size p) st w)
+stays_held Over p w h k = tt

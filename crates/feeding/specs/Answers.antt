@@ -1,23 +1,18 @@
 -- What is answered and written for a window, and how the next one goes on.
 use Rattle.std.specs.Prelude.{List, ◌≡◌, ℕ, take, drop}
 use Rattle.std.proofs.lemmas.List.Edits.{sets}
-use Rattle.image.specs.declared.State.{State}
 use Rattle.playback.specs.Playback.{Stage, opening, playing, over, Fed, opening_in}
 use Rattle.playback.specs.Answers.{copied}
 use Rattle.telling.specs.Answers.{Told}
-use Rattle.telling.specs.declared.Phase.{Phase}
-use Rattle.telling.specs.declared.Phase.TheVariants.{Opening, Playing, Over}
 use Rattle.telling.specs.declared.Player.{Player}
+use Rattle.telling.specs.declared.Player.TheVariants.{Opening, Playing, Over}
 use Rattle.telling.specs.declared.Fed.{Fed as FedAnswer}
 
 -- how far a player and the buffer of its program have come
-abbrev pub stage_by : Phase → ℕ → State → List ℕ → Stage
-stage_by Opening size st p = opening
-stage_by Playing size st p = playing (take size p) st
-stage_by Over size st p = over
-
 abbrev pub stage_of : Player → List ℕ → Stage
-stage_of a p = stage_by a.phase a.size a.state p
+stage_of Opening p = opening
+stage_of (Playing size st) p = playing (take size p) st
+stage_of Over p = over
 
 -- the buffer of a program after a window was fed
 abbrev pub program_after : Stage → List ℕ → List ℕ → List ℕ

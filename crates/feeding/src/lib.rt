@@ -7,13 +7,13 @@ ghost use Rattle.lines.specs.Lines.{line_bytes};
 ghost use Rattle.recording.specs.Recording.{program_bytes};
 ghost use Rattle.playback.specs.Playback.{opening, fed, finished};
 ghost use Rattle.telling.specs.Lines.{lines_for};
-ghost use Rattle.telling.specs.Answers.{Roomy};
+ghost use Rattle.telling.specs.Answers.{Held, Roomy};
 ghost use Rattle.feeding.specs.Listing.{Listed};
 ghost use Rattle.feeding.specs.Answers.{stage_of, FedOn};
 
 use image::State;
-use playback::Opened;
-use telling::{Fed, Phase, Player};
+use playback::Halt;
+use telling::{Fed, Player};
 
 // Opens the recording in a window, and goes on to its scans.
 fn open(window: &[u8], program: &mut [u8], out: &mut [u8]) -> Fed
@@ -21,46 +21,36 @@ fn open(window: &[u8], program: &mut [u8], out: &mut [u8]) -> Fed
     ensures { FedOn opening (fed opening window.now) window.now program.old program.new
         out.old out.new result }
 {
-    let o = playback::open_recording(window, program);
-    match o {
-        Opened::Waits => Fed {
-            player: Player::fresh(),
-            used: 0,
-            to: 0,
-        },
-        Opened::Bad => {
+    match playback::open_recording(window, program) {
+        Ok((size, next)) => telling::play(window, next, &program[..size], State::fresh(), out),
+        Err(Halt::Refused(n, place)) => {
+            let to = lines::write_refused(out, 0, n, place);
+            telling::ended(window.len(), to)
+        }
+        Err(Halt::Bad) => {
             let to = lines::write_bad_program(out, 0);
             telling::ended(window.len(), to)
         }
-        Opened::Refused(n, at) => {
-            let to = lines::write_refused(out, 0, n, at);
-            telling::ended(window.len(), to)
-        }
-        Opened::Opens(size, next) => telling::play(
-            window,
-            next,
-            &program[..size],
-            State::fresh(),
-            out,
-        ),
+        Err(Halt::Waits) => Fed {
+            player: Player::Opening,
+            used: 0,
+            to: 0,
+        },
     }
 }
 
+// Kept: its buffers are parameters of their own, by what may not change: any that have room may be lent, and the row `feeding_feed` of
+// Determinacy says each.
 // Feeds the bytes at hand.
 pub fn feed(window: &[u8], player: Player, program: &mut [u8], out: &mut [u8]) -> Fed
-    requires { (program_bytes ≤ length program.old) × ((player.size ≤ length program.old) × Roomy window.now out.old) }
+    requires { (program_bytes ≤ length program.old) × ((Held player program.old) × Roomy window.now out.old) }
     ensures { FedOn (stage_of player program.old) (fed (stage_of player program.old) window.now)
         window.now program.old program.new out.old out.new result }
 {
-    let phase = player.phase;
-    match phase {
-        Phase::Over => telling::ended(window.len(), 0),
-        Phase::Playing => {
-            let size = player.size;
-            let state = player.state;
-            telling::play(window, 0, &program[..size], state, out)
-        }
-        Phase::Opening => open(window, program, out),
+    match player {
+        Player::Opening => open(window, program, out),
+        Player::Playing(size, state) => telling::play(window, 0, &program[..size], state, out),
+        Player::Over => telling::ended(window.len(), 0),
     }
 }
 
@@ -69,16 +59,10 @@ pub fn finish(rest: &[u8], player: Player, out: &mut [u8]) -> usize
     requires { line_bytes ≤ length out.old }
     ensures { Put (lines_for (finished (stage_of player []) rest.now)) out.old 0 out.new result }
 {
-    let phase = player.phase;
-    match phase {
-        Phase::Over => 0,
-        Phase::Opening => lines::write_bad_program(out, 0),
-        Phase::Playing => {
-            if rest.len() == 0 {
-                return 0;
-            }
-            lines::write_bad_scan(out, 0)
-        }
+    match player {
+        Player::Opening => lines::write_bad_program(out, 0),
+        Player::Playing(..) if rest.len() > 0 => lines::write_bad_scan(out, 0),
+        Player::Playing(..) | Player::Over => 0,
     }
 }
 

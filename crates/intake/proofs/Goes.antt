@@ -5,25 +5,27 @@ use mathlib.Core.List.{List, [], ◌∷◌}
 use native.Mathlib.Omega.{arith}
 use native.Mathlib.Nat.{zero-add}
 use lib.ListN.{length, take}
+use Rattle.std.specs.Prelude.{Result, Ok, Err, Option, Some, None}
 use Rattle.text.specs.Text.{Put}
 use Rattle.text.proofs.Texts.{put_length}
 use Rattle.lines.specs.Lines.{line_bytes}
 use Rattle.recording.specs.Recording.{program_bytes}
 use Rattle.playback.specs.Playback.{Stage, opening, playing, over, finished}
 use Rattle.telling.specs.Lines.{lines_for}
-use Rattle.telling.specs.Answers.{Roomy}
-use Rattle.telling.specs.declared.Phase.{Phase}
-use Rattle.telling.specs.declared.Phase.TheVariants.{Opening, Playing, Over}
+use Rattle.telling.specs.Answers.{Held, Roomy}
 use Rattle.telling.specs.declared.Player.{Player}
-use Rattle.feeding.specs.Answers.{stage_by, stage_of}
+use Rattle.telling.specs.declared.Player.TheVariants.{Opening, Playing, Over}
+use Rattle.feeding.specs.Answers.{stage_of}
 use Rattle.reading.specs.Reading.{Inside}
-use Rattle.reading.specs.declared.Input.{Input}
-use Rattle.reading.specs.declared.Input.TheVariants.{Bytes, End, Failed}
 use Rattle.keeping.specs.declared.Keep.{Keep}
 use Rattle.intake.specs.Intake.{ended_at, Ended, WentOn, fails, ends, reads}
 
+-- what was read, by what stands within
+pub read_is : {E : Type 0} {got : Result (Option ℕ) E} {f g : Option ℕ} → got ≡ Ok f → f ≡ g → got ≡ Ok g
+read_is e h = rw e (ap Ok h)
+
 -- bytes that were read lie within the buffer
-pub behind : (kept : ℕ) (b : List ℕ) {n : ℕ} {got : Input} → Inside kept b got → got ≡ Bytes n → kept + n ≤ length b
+pub behind : {E : Type 0} (kept : ℕ) (b : List ℕ) {n : ℕ} {got : Result (Option ℕ) E} → Inside kept b got → got ≡ Ok (Some n) → kept + n ≤ length b
 behind kept b h e = subst (Inside kept b) e h
 
 -- where there is room for the lines of a window, there is for one
@@ -39,13 +41,10 @@ finish_short over rest = omega arith
 
 -- the program is nothing to the end
 finished_any : (a : Player) (p rest : List ℕ) → finished (stage_of a []) rest ≡ finished (stage_of a p) rest
-finished_any a p rest = go a.phase rest
-  where
-    go : (f : Phase) (r : List ℕ) → finished (stage_by f a.size a.state []) r ≡ finished (stage_by f a.size a.state p) r
-    go Opening r = refl
-    go Playing [] = refl
-    go Playing (b ∷ r) = refl
-    go Over r = refl
+finished_any Opening p r = refl
+finished_any (Playing size st) p [] = refl
+finished_any (Playing size st) p (b ∷ r) = refl
+finished_any Over p r = refl
 
 -- where a text was put that is at most a line, and the run has ended, what was said is that text
 pub ended_so : (text : List ℕ) (b p : List ℕ) {l m : List ℕ} {to : ℕ} {r : Keep} → length text ≤ line_bytes → line_bytes ≤ length l → Put text l 0 m to →
@@ -60,24 +59,24 @@ ended_so text b p {to = to} short room put h =
       within = omega (arith, short, room, place, put_length put, ap (λ (a : Keep). a.to) h);
     }
 
-pub told_at_end : {got : Input} (a : Player) (k : ℕ) (b p : List ℕ) {rest l m : List ℕ} {to : ℕ} {r : Keep} → got ≡ End → rest ≡ take k b → line_bytes ≤ length l →
+pub told_at_end : {E : Type 0} {got : Result (Option ℕ) E} (a : Player) (k : ℕ) (b p : List ℕ) {rest l m : List ℕ} {to : ℕ} {r : Keep} → got ≡ Ok None → rest ≡ take k b → line_bytes ≤ length l →
     Put (lines_for (finished (stage_of a []) rest)) l 0 m to → r ≡ ended_at to → WentOn got (stage_of a p) k b b p p l m r
 told_at_end a k b p {rest} e same room put h =
     let z : finished (stage_of a []) rest ≡ finished (stage_of a p) (take k b) = finished_any a p rest ∙ rw same in
     ends e (rw z at (ended_so (lines_for (finished (stage_of a []) rest)) b p (finish_short (stage_of a []) rest) room put h))
 
-pub said_nothing : {got : Input} (g : Stage) (k : ℕ) (b p l : List ℕ) {r : Keep} → got ≡ Failed → r ≡ ended_at 0 → WentOn got g k b b p p l l r
+pub said_nothing : {E : Type 0} {got : Result (Option ℕ) E} {x : E} (g : Stage) (k : ℕ) (b p l : List ℕ) {r : Keep} → got ≡ Err x → r ≡ ended_at 0 → WentOn got g k b b p p l l r
 said_nothing g k b p l e h =
-    fails e (record { buffer = refl; program = refl; lines = refl; answer = h; within = omega (arith, ap (λ (a : Keep). a.to) h) })
+    fails _ e (record { buffer = refl; program = refl; lines = refl; answer = h; within = omega (arith, ap (λ (a : Keep). a.to) h) })
 
 -- what is kept is small, and its text within the buffer
 ended_small : {text b d p q l m : List ℕ} {r : Keep} → Ended text b d p q l m r →
-    ((r.kept < 3 + program_bytes) × (r.player.size ≤ length q)) × (r.to ≤ length m)
+    ((r.kept < 3 + program_bytes) × Held r.player q) × (r.to ≤ length m)
 ended_small w =
-    ((omega (arith, ap (λ (k : Keep). k.kept) w.answer), omega (arith, ap (λ (k : Keep). k.player.size) w.answer)), w.within)
+    ((omega (arith, ap (λ (k : Keep). k.kept) w.answer), rw (ap (λ (k : Keep). k.player) w.answer) tt), w.within)
 
-pub went_small : {got : Input} {g : Stage} {k : ℕ} {b d p q l m : List ℕ} {r : Keep} → WentOn got g k b d p q l m r →
-    ((r.kept < 3 + program_bytes) × (r.player.size ≤ length q)) × (r.to ≤ length m)
-went_small (fails e w) = ended_small w
+pub went_small : {E : Type 0} {got : Result (Option ℕ) E} {g : Stage} {k : ℕ} {b d p q l m : List ℕ} {r : Keep} → WentOn got g k b d p q l m r →
+    ((r.kept < 3 + program_bytes) × Held r.player q) × (r.to ≤ length m)
+went_small (fails x e w) = ended_small w
 went_small (ends e w) = ended_small w
 went_small (reads n e w) = ((w.short, w.small), w.within)

@@ -3,42 +3,47 @@
 
 ghost use Rattle.std.specs.Prelude.{◌≡◌, ◌≤◌, length};
 ghost use Rattle.recording.specs.Recording.{program_bytes};
-ghost use Rattle.telling.specs.Answers.{Roomy};
+ghost use Rattle.telling.specs.Answers.{Held, Roomy};
 ghost use Rattle.feeding.specs.Answers.{stage_of};
 ghost use Rattle.reading.specs.Reading.{Inside};
 ghost use Rattle.intake.specs.Intake.{ended_at, WentOn};
 
 use keeping::Keep;
-use reading::Input;
+use std::io;
+use telling::Player;
 
 // A run that has ended, with a text up to `to`.
 fn ended_at(to: usize) -> Keep
     ensures { result ≡ ended_at to }
 {
-    let e = telling::ended(0, to);
-    let player = e.player;
     Keep {
-        player,
+        player: Player::Over,
         kept: 0,
         to,
     }
 }
 
+// Kept: its buffers are parameters of their own, by what may not change: any that have room may be lent, and the row `intake_go_on` of
+// Determinacy says each.
 // Goes on with what was read behind the bytes that are kept.
-pub fn go_on(got: Input, buf: &mut [u8], last: Keep, program: &mut [u8], text: &mut [u8]) -> Keep
+pub fn go_on(
+    got: io::Result<Option<usize>>,
+    buf: &mut [u8],
+    last: Keep,
+    program: &mut [u8],
+    text: &mut [u8],
+) -> Keep
     requires { (last.kept ≤ length buf.old) × (Inside last.kept buf.old got
-        × ((program_bytes ≤ length program.old) × ((last.player.size ≤ length program.old) × Roomy buf.old text.old))) }
+        × ((program_bytes ≤ length program.old) × ((Held last.player program.old) × Roomy buf.old text.old))) }
     ensures { WentOn got (stage_of last.player program.old) last.kept buf.old buf.new
         program.old program.new text.old text.new result }
 {
-    let kept = last.kept;
-    let player = last.player;
     match got {
-        Input::Failed => ended_at(0),
-        Input::End => {
-            let to = feeding::finish(&buf[..kept], player, text);
+        Ok(Some(n)) => keeping::feed_window(buf, last.kept + n, last.player, program, text),
+        Ok(None) => {
+            let to = feeding::finish(&buf[..last.kept], last.player, text);
             ended_at(to)
         }
-        Input::Bytes(n) => keeping::feed_window(buf, kept + n, player, program, text),
+        Err(_) => ended_at(0),
     }
 }

@@ -8,11 +8,12 @@ use lib.Seq.{take-nil, length-take-le}
 use Rattle.recording.specs.Recording.{program_bytes}
 use Rattle.playback.specs.Playback.{fed}
 use Rattle.windows.proofs.Feeds.{windows}
-use Rattle.telling.specs.Answers.{Roomy}
+use Rattle.telling.specs.Answers.{player_of, Held, Roomy}
 use Rattle.telling.specs.declared.Player.{Player}
+use Rattle.telling.specs.declared.Player.TheVariants.{Opening, Playing, Over}
 use Rattle.telling.specs.declared.Fed.{Fed as FedAnswer}
 use Rattle.feeding.specs.Answers.{stage_of, FedOn}
-use Rattle.feeding.proofs.Stages.{stays_small}
+use Rattle.feeding.proofs.Stages.{stays_held}
 use Rattle.keeping.specs.Keeping.{Kept}
 
 drop_take : (at m : ℕ) (s : List ℕ) → drop at (take m s) ≡ take (m - at) (drop at s)
@@ -24,6 +25,12 @@ drop_take (suc at) (suc m) (x ∷ s) = let e : suc m - suc at ≡ m - at = omega
 -- where there is room for the lines of a window, there is for those of its front
 pub roomy_front : (end : ℕ) (b l : List ℕ) → end ≤ length b → Roomy b l → Roomy (take end b) l
 roomy_front end b l h roomy = omega (arith, length-take-le end b h)
+
+-- a buffer as long holds as much
+pub held_longer : (a : Player) (p q : List ℕ) → length q ≡ length p → Held a p → Held a q
+held_longer Opening p q e h = tt
+held_longer (Playing size st) p q e h = omega arith
+held_longer Over p q e h = tt
 
 -- the bytes up to `end` of a buffer b were fed to a player with its program p
 module _ (a : Player) (end : ℕ) (b p : List ℕ) (inside : end ≤ length b) {q l m : List ℕ} {r : FedAnswer}
@@ -47,13 +54,12 @@ module _ (a : Player) (end : ℕ) (b p : List ℕ) (inside : end ≤ length b) {
   many : end - r.used ≡ length left
   many = sym (sym (ap length f.left) ∙ length-drop r.used (take end b) ∙ rw long)
 
-  pub kept_so : {d : List ℕ} {kept : ℕ} → program_bytes ≤ length p → a.size ≤ length p → length q ≡ length p → kept ≡ end - r.used →
+  pub kept_so : {d : List ℕ} {kept : ℕ} → program_bytes ≤ length p → Held a p → length q ≡ length p → kept ≡ end - r.used →
       d ≡ take (end - r.used) (drop r.used b) ++ drop (end - r.used) b →
       Kept (stage_of a p) (fed (stage_of a p) (take end b)) (take end b) b d p q l m (record { player = r.player; kept = kept; to = r.to })
   kept_so {d} {kept} big small same e moved =
-      let size : r.player.size ≤ length p =
-      rw (ap (λ (x : FedAnswer). x.player.size) f.told.answer) (stays_small a p (take end b) big small) in
       let player = ap (λ (x : FedAnswer). x.player) f.told.answer in
+      let held : Held r.player q = rw player (held_longer (player_of (fed (stage_of a p) (take end b)).stage) p q same (stays_held a p (take end b) big small)) in
       let to = ap (λ (x : FedAnswer). x.to) f.told.answer in
       let few : kept ≡ length left = e ∙ many in
       record {
@@ -63,6 +69,6 @@ module _ (a : Player) (end : ℕ) (b p : List ℕ) (inside : end ≤ length b) {
         answer = λ i. record { player = player i; kept = few i; to = to i };
         stage = f.stage;
         short = omega (arith, few, windows.short (stage_of a p) (take end b));
-        small = omega arith;
+        small = held;
         within = f.told.within;
       }

@@ -4,7 +4,7 @@ use Rattle.std.proofs.lemmas.List.Edits.{sets}
 use Rattle.recording.specs.Recording.{program_bytes}
 use Rattle.playback.specs.Playback.{Stage, Fed}
 use Rattle.telling.specs.Lines.{lines_for}
-use Rattle.telling.specs.Answers.{player_of}
+use Rattle.telling.specs.Answers.{player_of, Held}
 use Rattle.feeding.specs.Answers.{stage_of, program_after}
 use Rattle.keeping.specs.declared.Keep.{Keep}
 
@@ -17,5 +17,5 @@ pub record Kept (g : Stage) (f : Fed) (w b d p q l m : List ℕ) (r : Keep) : Ty
   pub answer : r ≡ record { player = player_of f.stage; kept = length f.left; to = length (lines_for f.came) }
   pub stage : stage_of r.player q ≡ f.stage
   pub short : r.kept < 3 + program_bytes
-  pub small : r.player.size ≤ length q
+  pub small : Held r.player q
   pub within : r.to ≤ length m

@@ -20,7 +20,7 @@ pub fn write_line(
     ensures { Put (line_with time steps held missed) out.old at out.new result }
 {
     let a = put_number(out, at, time, b' ');
-    let b = put_number(out, a, steps as u64, b' ');
+    let b = put_number(out, a, u64::from(steps), b' ');
     let c = put_number(out, b, held as u64, b' ');
     put_number(out, c, missed, b'\n')
 }
@@ -31,12 +31,13 @@ pub fn write_refused(out: &mut [u8], at: usize, n: u8, place: usize) -> usize
     ensures { Put (refused_line n place) out.old at out.new result }
 {
     let a = put(out, at, b"refused ");
-    let b = put_number(out, a, n as u64, b' ');
+    let b = put_number(out, a, u64::from(n), b' ');
     let c = put(out, b, b"at ");
     put_number(out, c, place as u64, b'\n')
 }
 
 // Puts `bad scan`.
+// Kept: one call of `put` each, and one function for both texts would be no plainer: its callers would hand it the text.
 pub fn write_bad_scan(out: &mut [u8], at: usize) -> usize
     requires { at + line_bytes ≤ length out.old }
     ensures { Put bad_scan out.old at out.new result }

@@ -11,36 +11,36 @@ use Rattle.text.specs.Text.{Put}
 use Rattle.program.specs.Acceptance.{accepted}
 use Rattle.program.specs.declared.Acceptance.{Acceptance}
 use Rattle.recording.specs.Recording.{Part, whole, bad, cut, program_bytes, length_in}
-use Rattle.recording.specs.Answers.{head_in}
-use Rattle.recording.specs.declared.Head.TheVariants.{Program, Bad, Cut}
-use Rattle.recording.proofs.Heads.{Fit, length_fits, head_whole, head_bad, head_cut, head_fits}
+use Rattle.std.specs.Prelude.{Ok, Err}
+use Rattle.recording.specs.Answers.{answered}
+use Rattle.recording.specs.declared.Lack.{Lack}
+use Rattle.recording.specs.declared.Lack.TheVariants.{Bad, Cut}
+use Rattle.recording.proofs.Heads.{Fit, length_fits, head_fits}
+use Rattle.recording.proofs.Parts.{part_is}
 use Rattle.terms.proofs.Choice.{pick_case}
 use Rattle.playback.specs.Playback.{Opening, opens, refuses_it, fails_it, waits_it, opened_by, opened_of, opening_in}
-use Rattle.playback.specs.Answers.{OpenedIn}
-use Rattle.playback.specs.declared.Opened.TheVariants.{Opens, Refused, Bad as NoProgram, Waits}
+use Rattle.playback.specs.Answers.{halt_of, OpenedIn}
+use Rattle.playback.specs.declared.Halt.TheVariants.{Refused}
 
 module _ (s : List ℕ) where
-  pub opens_bad : {p : List ℕ} → head_in (length_in s) ≡ Bad → OpenedIn (opening_in s) p p NoProgram
+  pub opens_not : {p : List ℕ} {k : Lack} → Err k ≡ answered (length_in s) → OpenedIn (opening_in s) p p (Err (halt_of k))
   unfolding opening_in
-  opens_bad e = rw (head_bad (length_in s) e) (record { program = refl; answer = refl })
+  opens_not {k = Bad} e = rw (part_is (length_in s) e) (record { program = refl; answer = refl })
+  opens_not {k = Cut} e = rw (part_is (length_in s) e) (record { program = refl; answer = refl })
 
-  pub opens_waits : {p : List ℕ} → head_in (length_in s) ≡ Cut → OpenedIn (opening_in s) p p Waits
-  unfolding opening_in
-  opens_waits e = rw (head_cut (length_in s) e) (record { program = refl; answer = refl })
-
-  module _ {n at : ℕ} (e : head_in (length_in s) ≡ Program n at) {a : Acceptance} (f : a ≡ accepted (take n (drop at s))) where
+  module _ {n at : ℕ} (e : Ok (n, at) ≡ answered (length_in s)) {a : Acceptance} (f : a ≡ accepted (take n (drop at s))) where
     opened : opening_in s ≡ opened_by (take n (drop at s)) (at + n)
     unfolding opening_in
-    opened = rw (head_whole (length_in s) e)
+    opened = rw (part_is (length_in s) e)
 
     long : length (take n (drop at s)) ≡ n
     long = length-take-le n (drop at s) (simp length-drop (omega (arith, head_fits s e)))
 
-    pub opens_refused : {p : List ℕ} → (a.refusal ≡ 0 → ⊥) → OpenedIn (opening_in s) p p (Refused a.refusal a.place)
+    pub opens_refused : {p : List ℕ} → (a.refusal ≡ 0 → ⊥) → OpenedIn (opening_in s) p p (Err (Refused a.refusal a.place))
     unfolding opened_by
     opens_refused ne = rw (opened, ne_eqb _ 0 (rw f at ne), f) (record { program = refl; answer = refl })
 
-    pub opens_good : {p q : List ℕ} {j : ℕ} → a.refusal ≡ 0 → Put (take n (drop at s)) p 0 q j → OpenedIn (opening_in s) p q (Opens n (at + n))
+    pub opens_good : {p q : List ℕ} {j : ℕ} → a.refusal ≡ 0 → Put (take n (drop at s)) p 0 q j → OpenedIn (opening_in s) p q (Ok (n, at + n))
     unfolding opened_by
     opens_good z copy = rw (opened, eq-eqb _ 0 (rw f at z)) (record { program = copy.bytes; answer = rw long })
 

@@ -1,21 +1,14 @@
 -- What a read says (ours).
-use Rattle.std.specs.Prelude.{List, Result, Ok, Err, ℕ, zero, suc, ◌+◌, ◌≤◌, min, ℤ, pos, negsuc, length}
-use Rattle.reading.specs.declared.Input.{Input}
-use Rattle.reading.specs.declared.Input.TheVariants.{Bytes, End, Failed}
+use Rattle.std.specs.Prelude.{List, Result, Ok, Err, Option, Some, None, ℕ, zero, suc, ◌+◌, ◌≤◌, min, length}
 
--- a read that had room for some bytes answers "-1, or how many bytes", of which 0 is the end of the input
-unfoldable pub input_of : ℤ → ℕ → Input
-input_of (negsuc k) room = Failed
-input_of (pos zero) room = End
-input_of (pos (suc k)) room = Bytes (min (suc k) room)
-
--- the count that a reader's answer stands for
-abbrev pub counted : {E : Type 0} → Result ℕ E → ℤ
-counted (Ok n) = pos (min n 9223372036854775807)
-counted (Err e) = negsuc 0
+-- a reader answers how many bytes it read, of which 0 is the end of the input, and no more are taken than there was room for
+unfoldable pub input_of : {E : Type 0} → Result ℕ E → ℕ → Result (Option ℕ) E
+input_of (Ok zero) room = Ok None
+input_of (Ok (suc k)) room = Ok (Some (min (suc k) room))
+input_of (Err e) room = Err e
 
 -- what was read behind `kept` bytes lies within the buffer
-abbrev pub Inside : ℕ → List ℕ → Input → Type 0
-Inside kept buf (Bytes n) = kept + n ≤ length buf
-Inside kept buf End = Unit {0}
-Inside kept buf Failed = Unit {0}
+abbrev pub Inside : {E : Type 0} → ℕ → List ℕ → Result (Option ℕ) E → Type 0
+Inside kept buf (Ok (Some n)) = kept + n ≤ length buf
+Inside kept buf (Ok None) = Unit {0}
+Inside kept buf (Err e) = Unit {0}

@@ -6,12 +6,13 @@ use native.Mathlib.Omega.{arith}
 use lib.Dec.{ltb}
 use lib.ListN.{length}
 use borrow.Author.Tests.{ltb-true, ltb-false}
+use Rattle.std.specs.Prelude.{Ok}
 use Rattle.terms.proofs.Choice.{pick_case}
 use Rattle.wire.specs.Number.{Num, Got, Bad, Cut}
 use Rattle.wire.specs.Number.{number_at}
 use Rattle.recording.specs.Recording.{Part, whole, bad, cut, program_bytes, length_of, length_in}
-use Rattle.recording.specs.Answers.{head_in}
-use Rattle.recording.specs.declared.Head.TheVariants.{Program, Bad as HeadBad, Cut as HeadCut}
+use Rattle.recording.specs.Answers.{answered}
+use Rattle.recording.proofs.Parts.{part_is}
 use Rattle.recording.proofs.Ends.{number_within, number_near}
 
 abbrev pub Fit : List ℕ → Part ℕ → Type 0
@@ -33,24 +34,5 @@ pub length_fits : (s : List ℕ) → Fit s (length_in s)
 unfolding length_in
 length_fits s = length_of_lem s (number_at s 0) refl
 
--- what the answer of a head tells of the length read
-pub head_whole : (p : Part ℕ) {n at : ℕ} → head_in p ≡ Program n at → p ≡ whole n at
-head_whole (whole m to) {n} {at} e =
-    let en : m ≡ n = cc in
-    let ea : to ≡ at = cc in
-    rw (en, ea)
-head_whole bad e = let z : ◌≡◌ {A = ℕ} 0 1 = cc in absurd (omega arith)
-head_whole cut e = let z : ◌≡◌ {A = ℕ} 0 1 = cc in absurd (omega arith)
-
-pub head_bad : (p : Part ℕ) → head_in p ≡ HeadBad → p ≡ bad
-head_bad (whole m to) e = let z : ◌≡◌ {A = ℕ} 0 1 = cc in absurd (omega arith)
-head_bad bad e = refl
-head_bad cut e = let z : ◌≡◌ {A = ℕ} 0 1 = cc in absurd (omega arith)
-
-pub head_cut : (p : Part ℕ) → head_in p ≡ HeadCut → p ≡ cut
-head_cut (whole m to) e = let z : ◌≡◌ {A = ℕ} 0 1 = cc in absurd (omega arith)
-head_cut bad e = let z : ◌≡◌ {A = ℕ} 0 1 = cc in absurd (omega arith)
-head_cut cut e = refl
-
-pub head_fits : (s : List ℕ) {n at : ℕ} → head_in (length_in s) ≡ Program n at → (n ≤ program_bytes) × (at + n ≤ length s)
-head_fits s e = rw (head_whole (length_in s) e) at (length_fits s)
+pub head_fits : (s : List ℕ) {n at : ℕ} → Ok (n, at) ≡ answered (length_in s) → (n ≤ program_bytes) × (at + n ≤ length s)
+head_fits s e = rw (part_is (length_in s) e) at (length_fits s)

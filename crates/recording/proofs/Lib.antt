@@ -1,6 +1,6 @@
-pub mod Fronts
+pub mod Parts
+pub mod Shorts
 pub mod Ends
 pub mod Heads
 pub mod Prefixes
 pub mod Moves
-pub mod Scans

@@ -8,12 +8,14 @@ use native.Mathlib.Nat.{zero-add}
 use lib.Dec.{eqb}
 use lib.ListN.{length, drop, length-drop}
 use lib.Seq.{drop-drop}
+use Rattle.std.specs.Prelude.{Result, Ok, Err}
 use Rattle.terms.specs.Choice.{pick}
 use Rattle.text.specs.Text.{Put}
 use Rattle.text.proofs.Texts.{put_then, put_length}
 use Rattle.lines.specs.Lines.{line_bytes}
 use Rattle.lines.proofs.Lines.{line_short, refused_short}
 use Rattle.image.specs.declared.State.{State}
+use Rattle.calls.specs.declared.Scanned.{Scanned}
 use Rattle.scanning.specs.Scan.{Inputs}
 use Rattle.calls.specs.Calls.{scan_of}
 use Rattle.recording.specs.Recording.{Part, whole, bad, cut, scan_at, least_bytes}
@@ -22,9 +24,8 @@ use Rattle.recording.proofs.Moves.{shifted, scan_left}
 use Rattle.playback.specs.Playback.{Came, ran, refused, bad_scan, cut_scan, bad_program, cut_program, Stage, playing, over, Fed, pausing, ending, before}
 use Rattle.playback.specs.Playback.{runs, refuses, turn_by, turn_of, played_by, played_in, played}
 use Rattle.playback.specs.Answers.{turned}
-use Rattle.playback.specs.declared.Turning.{Turning}
-use Rattle.playback.specs.declared.Turning.TheVariants.{Runs, Refuses, Fails, Waits}
-use Rattle.playback.specs.declared.Turned.{Turned}
+use Rattle.playback.specs.declared.Halt.{Halt}
+use Rattle.playback.specs.declared.Halt.TheVariants.{Refused, Bad, Waits}
 use Rattle.windows.proofs.Plays.{all_of}
 use Rattle.telling.specs.Lines.{line_of, line_for, lines_for}
 use Rattle.telling.specs.Answers.{player_of, Roomy, Told}
@@ -48,13 +49,12 @@ came_short cut_program = omega arith
 
 module _ (program window : List ℕ) where
   -- what the scans from a place on come to, by the turn of the first
-  abbrev CameTo : State → ℕ → Turning → Turned → Fed → Type 0
-  CameTo st at Runs t f =
-      (x : Inputs) × (f ≡ before (ran x t.answer) (played program t.answer.state (drop t.next window)))
-      × (at + least_bytes ≤ t.next) × (t.next ≤ length window)
-  CameTo st at Refuses t f = f ≡ ending (refused t.answer.refusal t.answer.place)
-  CameTo st at Fails t f = f ≡ ending bad_scan
-  CameTo st at Waits t f = f ≡ pausing (playing program st) (drop at window)
+  abbrev CameTo : State → ℕ → Result (Scanned × ℕ) Halt → Fed → Type 0
+  CameTo st at (Ok t) f =
+      (x : Inputs) × (f ≡ before (ran x t.0) (played program t.0.state (drop t.1 window))) × (at + least_bytes ≤ t.1) × (t.1 ≤ length window)
+  CameTo st at (Err (Refused n place)) f = f ≡ ending (refused n place)
+  CameTo st at (Err Bad) f = f ≡ ending bad_scan
+  CameTo st at (Err Waits) f = f ≡ pausing (playing program st) (drop at window)
 
   module _ (st : State) (at : ℕ) (h : at ≤ length window) where
     first : played program st (drop at window)
@@ -63,8 +63,8 @@ module _ (program window : List ℕ) where
     unfolding played_in
     first = sym (all_of program (suc (length (drop at window))) st (drop at window) (omega arith))
 
-    by_scan : (q : Part Inputs) → Takes (drop at window) least_bytes 0 q → let t = turned st at (turn_of program st (shifted at q)) in
-        CameTo st at t.turning t
+    by_scan : (q : Part Inputs) → Takes (drop at window) least_bytes 0 q →
+        CameTo st at (turned (turn_of program st (shifted at q)))
         (played_by program st (drop at window) (λ s k. played_in (length (drop at window)) program s (drop k (drop at window))) (turn_of program st q))
     unfolding turn_by
     by_scan (whole x k) e = go (eqb (scan_of program x st).refusal 0)
@@ -73,8 +73,7 @@ module _ (program window : List ℕ) where
         long = length-drop at window
 
         go : (b : Bool) → let a = scan_of program x st in
-            let t = turned st at (pick b (runs x a (at + k)) (refuses a)) in
-            CameTo st at t.turning t
+            CameTo st at (turned (pick b (runs x a (at + k)) (refuses a)))
             (played_by program st (drop at window) (λ s k. played_in (length (drop at window)) program s (drop k (drop at window))) (pick b (runs x a k) (refuses a)))
         go true =
             let a = scan_of program x st in
@@ -86,7 +85,7 @@ module _ (program window : List ℕ) where
     by_scan bad e = refl
     by_scan cut e = refl
 
-    pub came_to : {t : Turned} → t ≡ turned st at (turn_of program st (scan_at window at)) → CameTo st at t.turning t (played program st (drop at window))
+    pub came_to : {t : Result (Scanned × ℕ) Halt} → t ≡ turned (turn_of program st (scan_at window at)) → CameTo st at t (played program st (drop at window))
     came_to e =
         rw (e, scan_left window at, first) (by_scan (scan_at (drop at window) 0) (scan_takes (drop at window) 0 (omega arith)))
 
@@ -101,16 +100,16 @@ module _ (program window : List ℕ) where
       pub stage : f.stage ≡ (played program st (drop at window)).stage
       pub left : f.left ≡ (played program st (drop at window)).left
 
-    module _ {m : List ℕ} {at : ℕ} {st : State} {to : ℕ} (g : Going m at st to) {t : Turned} (e : t ≡ turned st at (turn_of program st (scan_at window at))) where
-      by : {k : Turning} → t.turning ≡ k → CameTo st at k t (played program st (drop at window))
-      by h = subst (λ (k : Turning). CameTo st at k t (played program st (drop at window))) h (came_to st at g.within e)
+    module _ {m : List ℕ} {at : ℕ} {st : State} {to : ℕ} (g : Going m at st to) where
+      by : {t : Result (Scanned × ℕ) Halt} → t ≡ turned (turn_of program st (scan_at window at)) → CameTo st at t (played program st (drop at window))
+      by e = came_to st at g.within e
 
-      pub goes_on : {m2 : List ℕ} {to2 : ℕ} → t.turning ≡ Runs → Put (line_of t.answer) m to m2 to2 → Going m2 t.next t.answer.state to2
-      goes_on {m2} {to2} h p =
+      pub goes_on : {a : Scanned} {next : ℕ} {m2 : List ℕ} {to2 : ℕ} → Ok (a, next) ≡ turned (turn_of program st (scan_at window at))
+          → Put (line_of a) m to m2 to2 → Going m2 next a.state to2
+      goes_on {a} {next} {m2} {to2} h p =
           let c = by h in
-          let a = t.answer in
           let short = came_short (ran c.0 a) in
-          let rest : Fed = played program a.state (drop t.next window) in
+          let rest : Fed = played program a.state (drop next window) in
           record {
             text = g.text ++ line_of a;
             put = put_then g.put p;
@@ -121,10 +120,10 @@ module _ (program window : List ℕ) where
             left = g.left ∙ ap (λ (r : Fed). r.left) c.1;
           }
 
-      pub falls : t.turning ≡ Runs → (at < t.next) × (t.next ≤ length window)
+      pub falls : {a : Scanned} {next : ℕ} → Ok (a, next) ≡ turned (turn_of program st (scan_at window at)) → (at < next) × (next ≤ length window)
       falls h = let c = by h in (omega (arith, c.2), c.3)
 
-      pub waits_on : Roomy window l → t.turning ≡ Waits → Told f window l m (record { player = player_of (playing program st); used = at; to = to })
+      pub waits_on : Roomy window l → Err Waits ≡ turned (turn_of program st (scan_at window at)) → Told f window l m (record { player = player_of (playing program st); used = at; to = to })
       waits_on roomy h =
           let z = by h in
           let stage : f.stage ≡ playing program st = g.stage ∙ ap (λ (r : Fed). r.stage) z in
@@ -144,11 +143,12 @@ module _ (program window : List ℕ) where
           told_so f window lines (put_then g.put p) (sym stage) used
           (omega (arith, roomy, g.room, g.within, p.place, came_short c, put_length g.put, put_length p))
 
-      pub fails_so : {m2 : List ℕ} {to2 : ℕ} → Roomy window l → t.turning ≡ Fails → Put (line_for bad_scan) m to m2 to2
+      pub fails_so : {m2 : List ℕ} {to2 : ℕ} → Roomy window l → Err Bad ≡ turned (turn_of program st (scan_at window at)) → Put (line_for bad_scan) m to m2 to2
           → Told f window l m2 (record { player = player_of over; used = length window; to = to2 })
       fails_so roomy h p = ends_so roomy (by h) p
 
-      pub refuses_so : {m2 : List ℕ} {to2 : ℕ} → Roomy window l → t.turning ≡ Refuses → Put (line_for (refused t.answer.refusal t.answer.place)) m to m2 to2
+      pub refuses_so : {n place : ℕ} {m2 : List ℕ} {to2 : ℕ} → Roomy window l → Err (Refused n place) ≡ turned (turn_of program st (scan_at window at))
+          → Put (line_for (refused n place)) m to m2 to2
           → Told f window l m2 (record { player = player_of over; used = length window; to = to2 })
       refuses_so roomy h p = ends_so roomy (by h) p
 

@@ -1,20 +1,25 @@
 -- What is answered and written for the scans of a window.
 use Rattle.std.specs.Prelude.{List, ◌≡◌, ℕ, ◌+◌, ◌-◌, ◌*◌, ◌≤◌, length}
 use Rattle.std.proofs.lemmas.List.Edits.{sets}
-use Rattle.image.specs.State.{fresh_state}
 use Rattle.lines.specs.Lines.{line_bytes}
 use Rattle.recording.specs.Recording.{least_bytes}
 use Rattle.playback.specs.Playback.{Stage, opening, playing, over, Fed}
 use Rattle.telling.specs.Lines.{lines_for}
-use Rattle.telling.specs.declared.Phase.TheVariants.{Opening, Playing, Over}
 use Rattle.telling.specs.declared.Player.{Player}
+use Rattle.telling.specs.declared.Player.TheVariants.{Opening, Playing, Over}
 use Rattle.telling.specs.declared.Fed.{Fed as FedAnswer}
 
 -- the player of a recording that has come so far
 abbrev pub player_of : Stage → Player
-player_of opening = record { phase = Opening; size = 0; state = fresh_state }
-player_of (playing program st) = record { phase = Playing; size = length program; state = st }
-player_of over = record { phase = Over; size = 0; state = fresh_state }
+player_of opening = Opening
+player_of (playing program st) = Playing (length program) st
+player_of over = Over
+
+-- a player's program is within its buffer
+abbrev pub Held : Player → List ℕ → Type 0
+Held Opening p = Unit {0}
+Held (Playing size st) p = size ≤ length p
+Held Over p = Unit {0}
 
 -- there is room for the lines of a window: a line for each of its scans, and one more
 abbrev pub Roomy : List ℕ → List ℕ → Type 0

@@ -10,22 +10,15 @@ ghost use Rattle.telling.specs.Answers.{player_of, Roomy, Told};
 
 use calls::Scanned;
 use image::State;
-use playback::Turning;
+use playback::Halt;
 
-// How far a recording has come: its program is not all there, its scans are run, or the run has ended.
-#[derive(Clone, Copy)]
-pub enum Phase {
+// How far a recording has come: its program is not all there; its scans are run, by a program of a size and in a state; or the run
+// has ended.
+#[derive(Clone, Copy, Debug, PartialEq, Eq)]
+pub enum Player {
     Opening,
-    Playing,
+    Playing(usize, State),
     Over,
-}
-
-// A recording on its way: of one whose scans are run the size of its program, and the state.
-#[derive(Clone, Copy)]
-pub struct Player {
-    pub phase: Phase,
-    pub size: usize,
-    pub state: State,
 }
 
 impl Player {
@@ -33,16 +26,12 @@ impl Player {
     pub fn fresh() -> Player
         ensures { result ≡ player_of opening }
     {
-        Player {
-            phase: Phase::Opening,
-            size: 0,
-            state: State::fresh(),
-        }
+        Player::Opening
     }
 }
 
 // The recording after a window, how many bytes of the window are used up, and the place after its text.
-#[derive(Clone, Copy)]
+#[derive(Clone, Copy, Debug, PartialEq, Eq)]
 pub struct Fed {
     pub player: Player,
     pub used: usize,
@@ -54,11 +43,7 @@ pub fn ended(used: usize, to: usize) -> Fed
     ensures { result ≡ record { player = player_of over; used = used; to = to } }
 {
     Fed {
-        player: Player {
-            phase: Phase::Over,
-            size: 0,
-            state: State::fresh(),
-        },
+        player: Player::Over,
         used,
         to,
     }
@@ -69,9 +54,8 @@ fn put_scan(a: Scanned, out: &mut [u8], to: usize) -> usize
     requires { to + line_bytes ≤ length out.old }
     ensures { Put (line_of a) out.old to out.new result }
 {
-    let state = a.state;
-    let j = state.journal;
-    lines::write_line(out, to, state.time, a.steps, j.held, j.missed)
+    let j = a.state.journal;
+    lines::write_line(out, to, a.state.time, a.steps, j.held, j.missed)
 }
 
 // The scans of a window from `start` on.
@@ -84,34 +68,26 @@ pub fn play(window: &[u8], start: usize, program: &[u8], fresh: State, out: &mut
     let mut state = fresh;
     let mut to: usize = 0;
     loop {
-        let t = playback::next_scan(window, at, program, state);
-        let turning = t.turning;
-        let a = t.answer;
-        match turning {
-            Turning::Waits => {
-                return Fed {
-                    player: Player {
-                        phase: Phase::Playing,
-                        size: program.len(),
-                        state,
-                    },
-                    used: at,
-                    to,
-                };
+        match playback::next_scan(window, at, program, state) {
+            Ok((a, next)) => {
+                to = put_scan(a, out, to);
+                state = a.state;
+                at = next;
             }
-            Turning::Fails => {
+            Err(Halt::Refused(n, place)) => {
+                let end = lines::write_refused(out, to, n, place);
+                return ended(window.len(), end);
+            }
+            Err(Halt::Bad) => {
                 let end = lines::write_bad_scan(out, to);
                 return ended(window.len(), end);
             }
-            Turning::Refuses => {
-                let end = lines::write_refused(out, to, a.refusal, a.place);
-                return ended(window.len(), end);
-            }
-            Turning::Runs => {
-                to = put_scan(a, out, to);
-                let s = a.state;
-                state = s;
-                at = t.next;
+            Err(Halt::Waits) => {
+                return Fed {
+                    player: Player::Playing(program.len(), state),
+                    used: at,
+                    to,
+                };
             }
         }
     }

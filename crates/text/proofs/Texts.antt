@@ -1,17 +1,27 @@
 -- Laws of text: a number's digits are its decimal form, and what is put after another text joins it. Assumes nothing.
 use Prim.Native.Nat.{ℕ, zero, suc, ◌+◌, ◌-◌, ◌/◌, ◌%◌, ◌^◌, ◌≤◌, ◌<◌}
-use mathlib.Core.Path.{◌≡◌, refl, ap, ◌∙◌}
+use mathlib.Core.Path.{◌≡◌, refl, sym, ap, ◌∙◌}
 use mathlib.Core.List.{List, [], ◌∷◌, ◌++◌, append_assoc}
 use native.Mathlib.Nat.{pow-suc, one-le-pow, pow-le-pow_right, mod-lt, mod-eq_of_lt}
 use native.Mathlib.Omega.{arith, by_contra}
-use lib.ListN.{length, set, length-append}
-use lib.Seq.{length-sets}
+use borrow.Rule.Slice.PartMut.{put_mid}
+use lib.ListN.{length, set, take, drop, length-append}
+use lib.Seq.{sets, length-sets, sets-eq, drop-drop}
 use lib.Dec.{ltb}
 use borrow.Author.Tests.{lt-ltb, le-ltb}
 use Rattle.terms.proofs.Choice.{pick_case}
 use Rattle.terms.proofs.Sets.{sets_append}
 use Rattle.io.specs.Digits.{hex_digit_ascii, last_digits, IsDigitCount}
 use Rattle.text.specs.Text.{digits_of, decimal, Put}
+
+-- a part of a buffer that became a text
+pub put_part :
+    (text l : List ℕ) (at : ℕ) {part : List ℕ} → at + length text ≤ length l → part ≡ text →
+    put_mid at (at + length text - at) l part ≡ sets l at text
+put_part text l at h e =
+    let k : at + length text - at ≡ length text = omega arith in
+    let same = append_assoc (take at l) text (drop (at + length text) l) in
+    rw (e, k, drop-drop (length text) at l) (sym (sets-eq text l at h ∙ same))
 
 -- a text put right after another
 module _ {xs ys l : List ℕ} {i : ℕ} {m : List ℕ} {j : ℕ} {n : List ℕ} {k : ℕ} where

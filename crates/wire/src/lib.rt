@@ -26,7 +26,7 @@ fn longer(s: &[u8], at: usize, low: u32) -> Result<(u32, usize), Unread>
         if b < NOT_ZERO {
             return Err(Unread::BadlyFormed); // as 81 00
         }
-        return Ok((low + (b as u32) * 128, at + 1));
+        return Ok((low + u32::from(b) * 128, at + 1));
     }
     let c = *s.get(at + 1).ok_or(Unread::Cut)?;
     if 128 <= c {
@@ -35,7 +35,7 @@ fn longer(s: &[u8], at: usize, low: u32) -> Result<(u32, usize), Unread>
     if c < NOT_ZERO {
         return Err(Unread::BadlyFormed); // as 81 80 00
     }
-    let high = ((b % 128) as u32) + (c as u32) * 128;
+    let high = u32::from(b % 128) + u32::from(c) * 128;
     Ok((low + high * 128, at + 2))
 }
 
@@ -46,9 +46,9 @@ pub fn number(s: &[u8], at: usize) -> Result<(u32, usize), Unread>
 {
     let a = *s.get(at).ok_or(Unread::Cut)?;
     if a < 128 {
-        return Ok((a as u32, at + 1));
+        return Ok((u32::from(a), at + 1));
     }
-    longer(s, at + 1, (a % 128) as u32)
+    longer(s, at + 1, u32::from(a % 128))
 }
 
 // The facts of numbers, as a theorem: it does nothing when called.

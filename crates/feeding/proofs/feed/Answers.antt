@@ -1,14 +1,12 @@
--- `feeding::feed` meets its contract, by the phase.
-use mathlib.Core.Path.{refl, sym}
-use lib.ListN.{take}
-use lib.Seq.{length-take-le}
+-- `feeding::feed` meets its contract, by how far the player has come.
+use Prim.Native.Nat.{◌≤◌}
+use mathlib.Core.Path.{refl, subst}
+use lib.ListN.{length, take}
 use Rattle.playback.specs.Playback.{playing, fed}
 use Rattle.feeding.proofs.Stages.{over_fed, stage_told, left_told, front_of}
+use Rattle.telling.specs.Answers.{Held}
+use Rattle.telling.specs.declared.Player.{Player}
 use Rattle.feeding.proofs.feed.Goals as goal
-
-pub slice_bounds-play-end-in-Playing : goal.slice_bounds-play-end-in-Playing
-slice_bounds-play-end-in-Playing c =
-    sym (length-take-le _ _ c.requires.1.0)
 
 pub returns-in-Over : goal.returns-in-Over
 returns-in-Over c =
@@ -17,16 +15,14 @@ returns-in-Over c =
 pub returns-in-Playing : goal.returns-in-Playing
 unfolding fed
 returns-in-Playing c =
-    let size = c.args.player.size in
+    let size = c.in-Playing.size in
+    let st = c.in-Playing.state in
     let buffer = c.args.program.now in
+    let held : size ≤ length buffer = subst (λ (a : Player). Held a buffer) c.in-Playing.is c.requires.1.0 in
     rw c.in-Playing.is
     (record {
       told = c.play.ensures;
       program = refl;
-      stage = stage_told (take size buffer) buffer _ _ (front_of size buffer c.requires.1.0) c.play.ensures;
-      left = left_told (playing (take size buffer) c.args.player.state) _ c.play.ensures;
+      stage = stage_told (take size buffer) buffer _ _ (front_of size buffer held) c.play.ensures;
+      left = left_told (playing (take size buffer) st) _ c.play.ensures;
     })
-
-pub returns-in-Opening : goal.returns-in-Opening
-returns-in-Opening c =
-    rw c.in-Opening.is c.«open».ensures

@@ -22,5 +22,5 @@ pub returns : goal.returns
 unfolding line_with
 returns c =
     let a = c.args in put_ended (decimal a.time) space c.put_number-a.ensures
-    (put_ended (decimal a.steps) space c.put_number-b.ensures
+    (put_ended (decimal a.steps) space (rw c.from.ensures at c.put_number-b.ensures)
     (put_ended (decimal a.held) space c.put_number-c.ensures c.put_number.ensures))

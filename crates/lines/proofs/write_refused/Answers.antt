@@ -24,4 +24,4 @@ unfolding refused_line
 returns c =
     let a = c.args in
     put_then c.put-a.ensures
-    (put_ended (decimal a.n) space c.put_number-b.ensures (put_then c.put-c.ensures c.put_number.ensures))
+    (put_ended (decimal a.n) space (rw c.from.ensures at c.put_number-b.ensures) (put_then c.put-c.ensures c.put_number.ensures))

@@ -1,19 +1,20 @@
--- `reading::told_by` meets its contract.
-use mathlib.Core.Path.{sym, ◌∙◌}
-use mir.Facts.{to_z-of_z}
-use Rattle.reading.proofs.Inputs.{fails, ends, gives}
+-- `reading::told_by` meets its contract, by what the reader answered.
+use Rattle.std.proofs.lemmas.Result.{err_from_is_err_and}
+use Rattle.reading.specs.Reading.{input_of}
+use Rattle.reading.proofs.Inputs.{gives}
 use Rattle.reading.proofs.told_by.Goals as goal
 
-pub returns-then-got-lt0 : goal.returns-then-got-lt0
-returns-then-got-lt0 c =
-    fails _ c.args.got (rw (to_z-of_z c.ranges.got) at c.if-got-lt0.true)
+pub returns-in_err-n : goal.returns-in_err-n
+unfolding input_of
+returns-in_err-n c =
+    let p = err_from_is_err_and c.from_residual.result c.from_residual.ensures.1 in
+    rw (p.1, p.2, c.in_err-n.was)
 
 pub returns-then-n-eq0 : goal.returns-then-n-eq0
+unfolding input_of
 returns-then-n-eq0 c =
-    let got = to_z-of_z c.ranges.got in
-    ends _ c.args.got c.requires (rw got at c.if-got-lt0.false) (sym (rw got at c.count-n.ensures.value) ∙ c.if-n-eq0.true)
+    rw (c.in_ok-n.was, c.if-n-eq0.true)
 
 pub returns : goal.returns
 returns c =
-    let got = to_z-of_z c.ranges.got in
-    gives _ c.args.got (rw got at c.if-got-lt0.false) (rw got at c.count-n.ensures.value) c.if-n-eq0.false
+    gives _ _ c.in_ok-n.was c.if-n-eq0.false c.min.ensures

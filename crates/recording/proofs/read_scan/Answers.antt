@@ -1,17 +1,15 @@
--- `recording::read_scan` meets its contract: the numbers are a scan's, in their order, or stand as they do.
-use mathlib.Core.Path.{◌∙◌}
-use Rattle.recording.proofs.Scans.{scan_whole, scan_bad, scan_cut}
+-- `recording::read_scan` meets its contract: the numbers are a scan's, in their order, or are not all there.
+use Rattle.std.proofs.lemmas.Result.{err_from_is_err_and}
+use Rattle.recording.specs.Recording.{shorts_at, scan_at}
+use Rattle.recording.proofs.Shorts.{scan_from, no_scan_at}
 use Rattle.recording.proofs.read_scan.Goals as goal
 
-pub returns-in-Bad : goal.returns-in-Bad
-returns-in-Bad c =
-    c.no_scan.ensures ∙ scan_bad _ _ c.read_shorts-r.ensures c.in-Bad.is
-
-pub returns-in-Cut : goal.returns-in-Cut
-returns-in-Cut c =
-    c.no_scan-in-Cut.ensures ∙ scan_cut _ _ c.read_shorts-r.ensures c.in-Cut.is
-
 pub returns : goal.returns
+unfolding scan_at
 returns c =
-    rw (c.words_of-words.ensures, c.bits_of-bits.ensures)
-    (scan_whole _ _ c.read_shorts-r.ensures c.in-Whole.is)
+    scan_from (shorts_at 11 c.args.s.now c.args.at) c.in_ok-values.ensures (rw (c.from.ensures, c.from-2.ensures)) c.words_of.ensures
+
+pub returns-in_err-values : goal.returns-in_err-values
+returns-in_err-values c =
+    let p = err_from_is_err_and c.from_residual.result c.from_residual.ensures.1 in
+    rw (p.1, p.2) (no_scan_at c.args.s.now c.args.at c.in_err-values.ensures)

@@ -1,36 +1,30 @@
-use mathlib.Core.Path.{◌≡◌, refl, sym, ◌∙◌}
-use Prim.Native.Nat.{suc, ◌+◌, ◌-◌}
-use native.Mathlib.Omega.{arith}
-use lib.ListN.{length-set}
+-- The loop reads one number more each turn.
+use Prim.Native.Nat.{suc, ◌<◌}
+use lib.Seq.{take_all, take-suc-set}
+use native.Mathlib.Numerals.{add-one}
+use Rattle.std.proofs.Common.{◌≡◌, ◌-◌, ◌+◌, ◌∙◌, arith, length, length-set, append-nil}
+use Rattle.std.proofs.lemmas.Result.{err_from_is_err_and}
 use Rattle.recording.specs.Recording.{shorts_at}
-use Rattle.recording.specs.Answers.{shorts_in}
-use Rattle.recording.proofs.Scans.{shorts_got, shorts_broken, shorts_short}
+use Rattle.recording.proofs.Shorts.{one_more, no_more}
 use Rattle.recording.proofs.read_shorts.Goals as goal
 
-pub loop-i-init : goal.loop-i-init
-unfolding shorts_in
-loop-i-init c =
-    ((omega arith, refl), refl)
+pub returns-in_err-v : goal.returns-in_err-v
+returns-in_err-v c =
+    let p = err_from_is_err_and c.from_residual.result c.from_residual.ensures.1 in
+    let e : 11 - c.loop-value.value-index ≡ suc (11 - (c.loop-value.value-index + 1)) = omega arith in
+    rw (p.1, p.2, c.loop-value.invariant.1, e) (no_more _ _ _ _ c.in_err-v.ensures)
 
-pub returns-in-Bad : goal.returns-in-Bad
-returns-in-Bad c =
-    let e : 11 - c.loop-i.i ≡ suc (11 - (c.loop-i.i + 1)) = omega arith in
-    let stop = shorts_broken _ _ _ _ _ (sym c.read_short-n.ensures ∙ c.in-Bad.is) in
-    c.no_shorts.ensures ∙ sym (rw e at c.loop-i.invariant.1 ∙ stop)
-
-pub returns-in-Cut : goal.returns-in-Cut
-returns-in-Cut c =
-    let e : 11 - c.loop-i.i ≡ suc (11 - (c.loop-i.i + 1)) = omega arith in
-    let stop = shorts_short _ _ _ _ _ (sym c.read_short-n.ensures ∙ c.in-Cut.is) in
-    c.no_shorts-in-Cut.ensures ∙ sym (rw e at c.loop-i.invariant.1 ∙ stop)
-
-pub loop-i-preserved : goal.loop-i-preserved
-loop-i-preserved c =
-    let e : 11 - c.loop-i.i ≡ suc (11 - (c.loop-i.i + 1)) = omega arith in
-    let turn = shorts_got _ _ _ _ _ (sym c.read_short-n.ensures ∙ c.in-Got.is) in
-    ((omega arith, simp length-set c.loop-i.invariant.0.1), rw e at c.loop-i.invariant.1 ∙ turn)
+pub loop-value-preserved : goal.loop-value-preserved
+loop-value-preserved c =
+    let l = c.loop-value in
+    let e : 11 - l.value-index ≡ suc (11 - suc l.value-index) = omega arith in
+    let h : l.value-index < length l.value-items = omega arith in
+    (simp length-set l.invariant.0, rw (add-one l.value-index, take-suc-set) (l.invariant.1 ∙ rw e (one_more _ _ _ _ c.in_ok-v.ensures)))
 
 pub returns : goal.returns
 unfolding shorts_at
 returns c =
-    let e : 11 - c.loop-i.i ≡ 0 = omega arith in sym (rw e at c.loop-i.invariant.1)
+    let l = c.loop-value in
+    let e : 11 - l.value-index ≡ 0 = omega arith in
+    let all = take_all l.value-index l.value-items (omega arith) in
+    rw (l.invariant.1, e, all, append-nil l.value-items)

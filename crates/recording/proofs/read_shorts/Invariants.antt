@@ -1,13 +1,9 @@
--- `recording::read_shorts` meets its contract. The loop's invariant: what is left, after the numbers stored, is the whole.
-use mathlib.Core.Path.{◌≡◌}
-use Prim.Native.Nat.{◌-◌, ◌≤◌}
-use lib.ListN.{length}
+-- `recording::read_shorts` meets its contract. The loop's invariant: what is left, behind the numbers stored, is the whole.
+use Rattle.std.proofs.Common.{◌≡◌, ◌-◌, length, take}
 use Rattle.recording.specs.Recording.{shorts_at}
-use Rattle.recording.specs.Answers.{shorts_in, shorts_from}
+use Rattle.recording.proofs.Shorts.{behind}
 use Rattle.recording.proofs.read_shorts.Given as goal
 
-abbrev pub invariant-loop-i : goal.invariant-loop-i
-invariant-loop-i l = ((l.i ≤ 11) × (length l.values ≡ 11)) × (shorts_in (shorts_at 11 l.s l.start) ≡ shorts_from l.i l.values (shorts_at (11 - l.i) l.s l.at))
-
-abbrev pub decreases-loop-i : goal.decreases-loop-i
-decreases-loop-i l = 11 - l.i
+abbrev pub invariant-loop-value : goal.invariant-loop-value
+invariant-loop-value l =
+    (length l.value-items ≡ 11) × (shorts_at 11 l.s l.start ≡ behind (take l.value-index l.value-items) (shorts_at (11 - l.value-index) l.s l.at))

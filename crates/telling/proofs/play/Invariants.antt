@@ -6,8 +6,8 @@ use Rattle.playback.specs.Playback.{played}
 use Rattle.telling.proofs.Turns.{Going}
 use Rattle.telling.proofs.play.Given as goal
 
-abbrev pub invariant-loop-out : goal.invariant-loop-out
-invariant-loop-out l = (length l.out ≡ length l.initial.out) × Going l.program l.window (played l.program l.initial.state (drop l.start l.window)) l.initial.out l.out l.at l.state l.to
+abbrev pub invariant-loop-a : goal.invariant-loop-a
+invariant-loop-a l = (length l.out ≡ length l.initial.out) × Going l.program l.window (played l.program l.initial.state (drop l.start l.window)) l.initial.out l.out l.at l.state l.to
 
-abbrev pub decreases-loop-out : goal.decreases-loop-out
-decreases-loop-out l = length l.window - l.at
+abbrev pub decreases-loop-a : goal.decreases-loop-a
+decreases-loop-a l = length l.window - l.at
