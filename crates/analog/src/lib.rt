@@ -1,62 +1,34 @@
 // The rules of CP, OG, ZC and ST: from the values at a block's pin and words, its settings and its old place to its new place.
-#![tactic(auto)]
+#![tactic(auto, unfolding(crate::specs::Analog::same, crate::specs::Analog::related, crate::specs::Analog::cp, crate::specs::Analog::scaled, crate::specs::Analog::og, crate::specs::Analog::zc, crate::specs::Analog::st))]
 
-ghost use Rattle.std.specs.Prelude.{◌≡◌, not, ◌&&◌, pos};
+ghost use Rattle.std.specs.Prelude.{◌≡◌, ◌&&◌, pos};
 ghost use Rattle.std.specs.Int.Signed.{le_z};
-ghost use Rattle.terms.specs.Words.{hold_word};
-ghost use Rattle.analog.specs.Analog.{same, related, cp, scaled, og, zc, st};
+ghost use Rattle.analog.specs.Analog.{related, cp, scaled, og, zc, st};
 
 use place::Place;
 
-// Whether two words are the same.
-fn equal(a: i16, b: i16) -> bool
-    ensures { result ≡ same a b }
-{
-    if a <= b { b <= a } else { false }
-}
-
 // A (relation) B.
+// Kept: relation and mode are the numbers of a program's settings, as `related` and `zc` have them (what may not change).
 fn relates(relation: u32, a: i16, b: i16) -> bool
     ensures { result ≡ related relation a b }
 {
-    if relation == 0 {
-        return equal(a, b);
+    match relation {
+        0 => a == b,
+        1 => a > b,
+        2 => a >= b,
+        3 => a < b,
+        4 => a <= b,
+        _ => a != b,
     }
-    if relation == 1 {
-        return b < a;
-    }
-    if relation == 2 {
-        return b <= a;
-    }
-    if relation == 3 {
-        return a < b;
-    }
-    if relation == 4 {
-        return a <= b;
-    }
-    !equal(a, b)
 }
 
 pub fn cp(i: bool, relation: u32, a: i16, b: i16, p: Place) -> Place
     ensures { result ≡ cp i relation a b p }
 {
-    let mut q = p;
-    if i {
-        q.out = relates(relation, a, b);
-        return q;
+    Place {
+        out: i && relates(relation, a, b),
+        ..p
     }
-    q.out = false;
-    q
-}
-
-// Whether holding to the range of a word changes it.
-fn holding_changes(z: i32) -> bool
-    ensures { result ≡ not (same (hold_word z) z) }
-{
-    if z < -32768 {
-        return true;
-    }
-    32767 < z
 }
 
 // A times X divided by B, cut toward zero, plus C.
@@ -64,62 +36,52 @@ fn scale(a: i16, x: i16, b: i16, c: i16) -> i32
     requires { b ≡ pos 0 → ⊥ }
     ensures { result ≡ scaled a x b c }
 {
-    let product = (a as i32) * (x as i32);
-    let quotient = product / (b as i32);
-    quotient + (c as i32)
+    let product = i32::from(a) * i32::from(x);
+    product / i32::from(b) + i32::from(c)
 }
 
 pub fn og(i: bool, a: i16, b: i16, c: i16, x: i16, p: Place) -> Place
     requires { b ≡ pos 0 → ⊥ }
     ensures { result ≡ og i a b c x p }
 {
-    let mut q = p;
     if !i {
-        q.out = false;
-        return q;
+        return Place { out: false, ..p };
     }
     let z = scale(a, x, b, c);
-    q.out = holding_changes(z);
-    q.word = terms::hold(z);
-    q
+    let word = terms::hold(z);
+    Place {
+        out: i32::from(word) != z,
+        word,
+        ..p
+    }
 }
 
 // L ≤ X ≤ H.
 fn inside(l: i16, x: i16, h: i16) -> bool
     ensures { result ≡ (le_z l x && le_z x h) }
 {
-    if l <= x { x <= h } else { false }
+    l <= x && x <= h
 }
 
 pub fn zc(i: bool, mode: u32, l: i16, x: i16, h: i16, p: Place) -> Place
     ensures { result ≡ zc i mode l x h p }
 {
-    let mut q = p;
-    if !i {
-        q.out = false;
-        return q;
-    }
-    if mode == 0 {
-        q.out = inside(l, x, h);
-        return q;
-    }
-    q.out = !inside(l, x, h);
-    q
+    let is_inside = inside(l, x, h);
+    let out = i && if mode == 0 { is_inside } else { !is_inside };
+    Place { out, ..p }
 }
 
 pub fn st(i: bool, x: i16, h: i16, l: i16, p: Place) -> Place
     ensures { result ≡ st i x h l p }
 {
-    let mut q = p;
-    if !i {
-        return q;
-    }
-    if h <= x {
-        q.out = true;
-        return q;
-    }
-    if x < l {
-        q.out = false;
-    }
-    q
+    let out = if !i {
+        p.out
+    } else if h <= x {
+        true
+    } else if x < l {
+        false
+    } else {
+        p.out
+    };
+    Place { out, ..p }
 }

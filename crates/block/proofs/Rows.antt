@@ -1,13 +1,13 @@
 -- Laws of fields and rows: a field's answer, and one more field of a row. Assumes nothing.
 use Prim.Native.Nat.{ℕ, zero, suc, ◌+◌, ◌-◌, ◌<◌, ◌≤◌}
-use mathlib.Core.Path.{◌≡◌, refl, sym, ◌∙◌}
+use mathlib.Core.Path.{◌≡◌, refl, sym, ap, ◌∙◌}
 use mathlib.Core.Bool.{Bool, true, false, not, ◌&&◌, ◌||◌}
-use mathlib.Core.List.{List, [], ◌∷◌}
+use mathlib.Core.List.{List, [], ◌∷◌, map}
 use native.Mathlib.Omega.{arith}
 use native.Mathlib.Nat.{add_assoc, add-zero, zero-add}
 use lib.Dec.{T, eqb, ltb, ltb→lt}
 use lib.ListN.{length, get_or, set, replicate, length-set}
-use lib.Seq.{get_or-set_same}
+use lib.Seq.{get_or-set_same, sets}
 use borrow.Author.Tests.{eqb-false, ne_eqb}
 use Rattle.wire.specs.Number.{Num, Got as NumGot, Bad, Cut}
 use Rattle.wire.specs.Number.{number_at}
@@ -18,9 +18,7 @@ use Rattle.wire.specs.Reading.{Read, got, fault, and_then}
 use Rattle.numbers.specs.Reading.{Marks, judged, typed_at}
 use Rattle.nodes.specs.Reading.{expr_at}
 use Rattle.block.specs.Reading.{content_at, fields_at, block_at}
-use Rattle.block.specs.Answers.{blank_row, empty_row, with_field, number_before, field_more, row_from, row_of, brief_of}
-use Rattle.block.specs.declared.End.TheVariants.{Next, Fault as EndFault}
-use Rattle.block.specs.declared.Brief.TheVariants.{Got as BriefGot, Fault as BriefFault}
+use Rattle.block.specs.Answers.{empty_row, with_field, number_before, field_more, row_from, row_of, brief_of}
 use Rattle.block.specs.declared.Row.{Row}
 use Rattle.numbers.proofs.References.{content_code, content_nodes, content_setting}
 use Rattle.terms.proofs.Table.{both_left, both_right}
@@ -29,14 +27,14 @@ use Rattle.nodes.proofs.Expressions.{few, Whole, whole}
 -- a BL's row, by what was read of its expression
 module _ (k : Marks) (s : List ℕ) (at : ℕ) where
   pub tree_full : {next left : ℕ} → Whole 63 (expr_at k 16 63 s at) next left
-      → (left ≤ 63) × (record { fields = replicate 5 0; nodes = 63 - left; end = Next next } ≡ row_of (fields_at k (types_of 0) 0 s at))
+      → (left ≤ 63) × (got (record { fields = replicate 5 0; nodes = 63 - left; next = next }) next ≡ row_of (fields_at k (types_of 0) 0 s at))
   unfolding content_at fields_at kind_of row_of
   tree_full {next} {left} (whole t r l) =
       let h = few k 16 63 s at r in
       let n : 63 - left ≡ nodes t = omega arith in
       (omega arith, rw (r, n, add-zero, zero-add))
 
-  pub tree_stopped : {n p : ℕ} → expr_at k 16 63 s at ≡ fault n p → blank_row n p ≡ row_of (fields_at k (types_of 0) 0 s at)
+  pub tree_stopped : {n p : ℕ} → expr_at k 16 63 s at ≡ fault n p → fault n p ≡ row_of (fields_at k (types_of 0) 0 s at)
   unfolding content_at fields_at kind_of row_of
   tree_stopped r = rw r
 
@@ -46,18 +44,14 @@ before_place zero l ne = absurd (ne refl)
 before_place (suc i) l ne = let e : suc i - 1 ≡ i = omega arith in rw e
 
 module _ (k : Marks) (i ty : ℕ) (s : List ℕ) (row : Row) where
-  pub more_refused : {n p : ℕ} → row.end ≡ EndFault n p → row ≡ field_more k i ty s row
+  pub more_fault : {x n p : ℕ} → x ≡ number_before i row.fields → typed_at k ty x s row.next ≡ fault n p → fault n p ≡ field_more k i ty s row
   unfolding field_more
-  more_refused e = rw e
+  more_fault b r = rw (sym b, r)
 
-  pub more_fault : {at x n p : ℕ} → row.end ≡ Next at → x ≡ number_before i row.fields → typed_at k ty x s at ≡ fault n p → blank_row n p ≡ field_more k i ty s row
+  pub more_got : {x v next : ℕ} → x ≡ number_before i row.fields → typed_at k ty x s row.next ≡ got v next
+      → got (record { fields = set row.fields i v; nodes = row.nodes; next = next }) next ≡ field_more k i ty s row
   unfolding field_more
-  more_fault e b r = rw (e, sym b, r)
-
-  pub more_got : {at x v next : ℕ} → row.end ≡ Next at → x ≡ number_before i row.fields → typed_at k ty x s at ≡ got v next
-      → record { fields = set row.fields i v; nodes = row.nodes; end = Next next } ≡ field_more k i ty s row
-  unfolding field_more
-  more_got e b r = rw (e, sym b, r)
+  more_got b r = rw (sym b, r)
 
 -- only an off time looks at the setting before it
 allowed_free : (ty a b v : ℕ) → (ty ≡ off_time → ⊥) → allowed ty a v ≡ allowed ty b v
@@ -87,12 +81,11 @@ fitting i b (ty ∷ ts) = ltb i 5 && (ltb ty number_types && ((not (eqb ty off_t
 
 module _ (k : Marks) (s : List ℕ) where
   -- a row read on by these types, from place i on
-  abbrev pub read_all : List ℕ → ℕ → Row → Row
-  read_all [] i row = row
-  read_all (ty ∷ ts) i row = read_all ts (suc i) (field_more k i ty s row)
+  abbrev pub read_all : List ℕ → ℕ → Read Row → Read Row
+  read_all [] i r = r
+  read_all (ty ∷ ts) i r = read_all ts (suc i) (and_then r (λ row next. field_more k i ty s row))
 
-  stays : (ts : List ℕ) (i n at : ℕ) → read_all ts i (blank_row n at) ≡ blank_row n at
-  unfolding field_more
+  stays : (ts : List ℕ) (i n at : ℕ) → read_all ts i (fault n at) ≡ fault n at
   stays [] i n at = refl
   stays (ty ∷ ts) i n at = stays ts (suc i) n at
 
@@ -116,7 +109,7 @@ module _ (k : Marks) (s : List ℕ) where
   -- what is left of a row, read on by its types, is the whole
   left_whole :
       (ts : List ℕ) (i : ℕ) (b : Bool) (l : List ℕ) (before at : ℕ) → length l ≡ 5 → T (fitting i b ts) → (T b → before ≡ number_before i l) →
-      read_all ts i (record { fields = l; nodes = 0; end = Next at }) ≡ row_from i l 0 (fields_at k ts before s at)
+      read_all ts i (got (record { fields = l; nodes = 0; next = at }) at) ≡ row_from i l 0 (fields_at k ts before s at)
   unfolding field_more fields_at
   left_whole [] i b l before at e f h = refl
   left_whole (ty ∷ ts) i b l before at e f h =
@@ -132,47 +125,50 @@ module _ (k : Marks) (s : List ℕ) where
     where
       on_number :
           (r : Read ℕ) →
-          ((v next : ℕ) → read_all ts (suc i) (record { fields = set l i v; nodes = 0; end = Next next }) ≡ row_from (suc i) (set l i v) 0
+          ((v next : ℕ) → read_all ts (suc i) (got (record { fields = set l i v; nodes = 0; next = next }) next) ≡ row_from (suc i) (set l i v) 0
           (fields_at k ts (setting_of (content_of ty v)) s next)) →
-          read_all ts (suc i) (with_field i (record { fields = l; nodes = 0; end = Next at }) r)
+          read_all ts (suc i) (with_field i (record { fields = l; nodes = 0; next = at }) r)
           ≡ row_from i l 0
           (and_then (and_then r (λ v next. got (content_of ty v) next)) (λ c next. and_then (fields_at k ts (setting_of c) s next) (λ cs end. got (c ∷ cs) end)))
       on_number (got v next) g =
           g v next ∙ sym (row_cons i l 0 (content_of ty v) (fields_at k ts (setting_of (content_of ty v)) s next) ∙ rw (content_code ty v, content_nodes ty v))
       on_number (fault n p) g = stays ts (suc i) n p
 
-  pub row_read : (ts : List ℕ) (at : ℕ) → T (fitting 0 true ts) → read_all ts 0 (empty_row at) ≡ row_of (fields_at k ts 0 s at)
+  pub row_read : (ts : List ℕ) (at : ℕ) → T (fitting 0 true ts) → read_all ts 0 (got (empty_row at) at) ≡ row_of (fields_at k ts 0 s at)
   unfolding row_of
   row_read ts at f = left_whole ts 0 true (replicate 5 0) 0 at refl f (λ _. refl)
 
--- what a row that ends tells of its fields
+-- what a row that was read tells of its fields
 pub data Full (r : Read (List Content)) (n next : ℕ) : Type 0 where
   full : (cs : List Content) → r ≡ got cs next → n ≡ nodes_in cs → Full r n next
 
-full_row : (r : Read (List Content)) {next : ℕ} → (row_of r).end ≡ Next next → Full r (row_of r).nodes next
-unfolding row_of
-full_row (got cs n) h = full cs (cc) (zero-add (nodes_in cs))
-full_row (fault n at) h = let z : ◌≡◌ {A = ℕ} 0 1 = cc in absurd (omega arith)
+module _ (r : Read (List Content)) where
+  pub row_full : {row : Row} → got row row.next ≡ row_of r → Full r row.nodes row.next
+  unfolding row_of
+  row_full {row} h = go r refl h
+    where
+      go : (q : Read (List Content)) → r ≡ q → got row row.next ≡ row_from 0 (replicate 5 0) 0 q → Full r row.nodes row.next
+      go (got cs n) e h =
+          let a : row.next ≡ n = cc in
+          let b : row ≡ record { fields = sets (replicate 5 0) 0 (map code_of cs); nodes = 0 + nodes_in cs; next = n } = cc in
+          full cs (rw (← a) at e) (ap (λ (x : Row). x.nodes) b ∙ zero-add (nodes_in cs))
+      go (fault n at) e h = let z : ◌≡◌ {A = ℕ} 0 1 = cc in absurd (omega arith)
 
-stop_row : (r : Read (List Content)) {n at : ℕ} → (row_of r).end ≡ EndFault n at → r ≡ fault n at
-unfolding row_of
-stop_row (got cs n) h = let z : ◌≡◌ {A = ℕ} 0 1 = cc in absurd (omega arith)
-stop_row (fault n at) h = cc
-
-module _ (k : Marks) (ts : List ℕ) (before : ℕ) (s : List ℕ) (at : ℕ) (row : Row) (e : row ≡ row_of (fields_at k ts before s at)) where
-  pub row_full : {next : ℕ} → row.end ≡ Next next → Full (fields_at k ts before s at) row.nodes next
-  row_full {next} h = rw e (full_row (fields_at k ts before s at) (rw e at h))
-
-  pub row_stopped : {n p : ℕ} → row.end ≡ EndFault n p → fields_at k ts before s at ≡ fault n p
-  row_stopped h = stop_row (fields_at k ts before s at) (rw e at h)
+  pub row_stopped : {n p : ℕ} → fault n p ≡ row_of r → r ≡ fault n p
+  unfolding row_of
+  row_stopped {n} {p} h = go r refl h
+    where
+      go : (q : Read (List Content)) → r ≡ q → fault n p ≡ row_from 0 (replicate 5 0) 0 q → r ≡ fault n p
+      go (got cs n) e h = let z : ◌≡◌ {A = ℕ} 0 1 = cc in absurd (omega arith)
+      go (fault x y) e h = let a : x ≡ n = cc in let b : y ≡ p = cc in rw (← a, ← b) e
 
 -- a block, by its kind and its row
 module _ (k : Marks) (s : List ℕ) (at : ℕ) {v next : ℕ} (e : typed_at k kind_number 0 s at ≡ got v next) where
   pub block_full : {n end : ℕ} → Full (fields_at k (types_of v) 0 s next) n end
-      → BriefGot ((kind_of v).memory + n) (figure_for n) (mark_for v) end ≡ brief_of (block_at k s at)
+      → got (record { memory = (kind_of v).memory + n; figure = figure_for n; mark = mark_for v; next = end }) end ≡ brief_of (block_at k s at)
   unfolding block_at
   block_full (full cs r h) = rw (e, r, h)
 
-  pub block_stopped : {n p : ℕ} → fields_at k (types_of v) 0 s next ≡ fault n p → BriefFault n p ≡ brief_of (block_at k s at)
+  pub block_stopped : {n p : ℕ} → fields_at k (types_of v) 0 s next ≡ fault n p → fault n p ≡ brief_of (block_at k s at)
   unfolding block_at
   block_stopped r = rw (e, r)

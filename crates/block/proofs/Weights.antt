@@ -1,20 +1,20 @@
 -- The nodes, memory and step figure of a block are few. Assumes nothing.
 use Prim.Native.Nat.{ℕ, suc, ◌+◌, ◌*◌, ◌<◌, ◌≤◌}
-use mathlib.Core.Path.{◌≡◌, refl, subst}
+use mathlib.Core.Path.{◌≡◌, refl, ap, subst}
 use mathlib.Core.List.{List, [], ◌∷◌}
 use native.Mathlib.Omega.{arith}
 use lib.Dec.{eqb}
 use lib.ListN.{length}
 use Rattle.terms.proofs.Choice.{pick_case, when_case}
 use Rattle.numbers.specs.Blocks.{Block, Expr, Content, tree, nodes, nodes_of, nodes_in}
-use Rattle.kinds.specs.Kinds.{expression, types_of, memory_of, figure_for, figure_of}
+use Rattle.kinds.specs.Kinds.{expression, types_of, memory_of, figure_for, figure_of, mark_of}
 use Rattle.numbers.specs.Types.{kind_count, kind_number, content_of, setting_of}
 use Rattle.wire.specs.Reading.{Read, got, fault, and_then}
 use Rattle.numbers.specs.Reading.{Marks, typed_at}
 use Rattle.nodes.specs.Reading.{expr_at}
 use Rattle.block.specs.Reading.{content_at, fields_at, block_at}
 use Rattle.block.specs.Answers.{brief_of}
-use Rattle.block.specs.declared.Brief.TheVariants.{Got as BriefGot}
+use Rattle.block.specs.declared.Brief.{Brief}
 use Rattle.numbers.proofs.References.{content_nodes}
 use Rattle.kinds.proofs.KindTable.{types_few, memory_light}
 use Rattle.numbers.proofs.Typed.{typed_below}
@@ -101,12 +101,13 @@ light_block : (k : Marks) (s : List ℕ) (at : ℕ) → Light (block_at k s at)
 unfolding block_at
 light_block k s at = light_kind k s (typed_at k kind_number 0 s at) (λ v n e. typed_below k kind_number 0 s at e)
 
-brief_light : (r : Read Block) {m f b next : ℕ} → brief_of r ≡ BriefGot m f b next → Light r → (m ≤ 337) × (f ≤ 315)
-brief_light (got b n) {m} {f} e l =
-    let em : memory_of b ≡ m = cc in
-    let ef : figure_of b ≡ f = cc in
+brief_light : (r : Read Block) {x : Brief} {next : ℕ} → brief_of r ≡ got x next → Light r → (x.memory ≤ 337) × (x.figure ≤ 315)
+brief_light (got b n) {x} e l =
+    let h : record { memory = memory_of b; figure = figure_of b; mark = mark_of b; next = n } ≡ x = cc in
+    let em : memory_of b ≡ x.memory = ap (λ (y : Brief). y.memory) h in
+    let ef : figure_of b ≡ x.figure = ap (λ (y : Brief). y.figure) h in
     (omega arith, omega arith)
 brief_light (fault n at) e l = let z : ◌≡◌ {A = ℕ} 0 1 = cc in absurd (omega arith)
 
-pub block_light : (k : Marks) (s : List ℕ) (at : ℕ) {m f b next : ℕ} → brief_of (block_at k s at) ≡ BriefGot m f b next → (m ≤ 337) × (f ≤ 315)
+pub block_light : (k : Marks) (s : List ℕ) (at : ℕ) {x : Brief} {next : ℕ} → brief_of (block_at k s at) ≡ got x next → (x.memory ≤ 337) × (x.figure ≤ 315)
 block_light k s at e = brief_light (block_at k s at) e (light_block k s at)

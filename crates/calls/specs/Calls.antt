@@ -1,5 +1,5 @@
 -- Document 01: the whole answer of a scan and of a take, refusals included.
-use Rattle.std.specs.Prelude.{false, not, List, ℕ, ◌+◌, eqb}
+use Rattle.std.specs.Prelude.{is_some, unwrap_or, false, not, List, ℕ, ◌+◌, eqb}
 use Rattle.terms.specs.Choice.{pick}
 use Rattle.terms.specs.Refusals.{bad_state, too_far}
 use Rattle.wire.specs.Reading.{Read, got, fault}
@@ -59,8 +59,8 @@ handed_by s t =
     record {
       state = record { places = s.places; time = s.time; alarms = s.alarms; journal = t.journal };
       refusal = 0;
-      found = t.found;
-      entry = t.entry;
+      found = is_some t.entry;
+      entry = unwrap_or t.entry zero_entry;
     }
 
 unfoldable pub take_of : State → Handed

@@ -8,7 +8,7 @@ ghost use Rattle.scanning.specs.Scan.{inputs};
 ghost use Rattle.calls.specs.InPlace.{scanned_in, after_scan, taken_in, after_take};
 
 use calls::{ScanAnswer, TakeAnswer};
-use journal::Stamp;
+use journal::{Entry, Stamp};
 
 // One scan of a program.
 pub fn scan_in(
@@ -39,7 +39,7 @@ pub fn scan_in(
         return calls::refuse_after(program, terms::BAD_STATE);
     };
     let stamp = Stamp {
-        time: counts[0] + (elapsed as u64),
+        time: counts[0] + u64::from(elapsed),
     };
     let rises = log_book::close(stamp, a.alarms, counts, times, numbers);
     ScanAnswer {
@@ -69,11 +69,10 @@ pub fn take_in(
     if !inspection::good(counts, times, numbers, ticks, words, pins, outputs) {
         return calls::refuse_take();
     }
-    let o = log_book::hand_out(counts, times, numbers);
-    let e = o.entry;
+    let oldest = log_book::hand_out(counts, times, numbers);
     TakeAnswer {
         refusal: 0,
-        found: o.found,
-        entry: e,
+        found: oldest.is_some(),
+        entry: oldest.unwrap_or(Entry::zero()),
     }
 }

@@ -1,5 +1,5 @@
 // The rules of CN and UD: from the values at a block's pins, its preset and its old place to its new place.
-#![tactic(auto)]
+#![tactic(auto, unfolding(crate::specs::Counters::cn_word, crate::specs::Counters::cn, crate::specs::Counters::ud_word, crate::specs::Counters::ud))]
 
 ghost use Rattle.std.specs.Prelude.{◌≡◌};
 ghost use Rattle.counters.specs.Counters.{cn_word, cn, ud_word, ud};
@@ -14,7 +14,7 @@ fn cn_word(i: bool, c: bool, p: Place) -> i16
         return 0;
     }
     if p.first_rises(i) {
-        return terms::hold((p.word as i32) + 1);
+        return p.word.saturating_add(1);
     }
     p.word
 }
@@ -22,11 +22,12 @@ fn cn_word(i: bool, c: bool, p: Place) -> i16
 pub fn cn(i: bool, c: bool, preset: i16, p: Place) -> Place
     ensures { result ≡ cn i c preset p }
 {
-    let w = cn_word(i, c, p);
-    let mut q = p;
-    q.out = preset <= w;
-    q.word = w;
-    q
+    let word = cn_word(i, c, p);
+    Place {
+        out: preset <= word,
+        word,
+        ..p
+    }
 }
 
 // The word of UD.
@@ -39,23 +40,20 @@ fn ud_word(u: bool, d: bool, set: bool, c: bool, preset: i16, p: Place) -> i16
     if set {
         return preset;
     }
-    let up = p.first_rises(u);
-    let down = p.second_rises(d);
-    if up == down {
-        return p.word;
+    match (p.first_rises(u), p.second_rises(d)) {
+        (true, false) => p.word.saturating_add(1),
+        (false, true) => p.word.saturating_sub(1),
+        _ => p.word,
     }
-    if up {
-        return terms::hold((p.word as i32) + 1);
-    }
-    terms::hold((p.word as i32) + -1)
 }
 
 pub fn ud(u: bool, d: bool, set: bool, c: bool, preset: i16, p: Place) -> Place
     ensures { result ≡ ud u d set c preset p }
 {
-    let w = ud_word(u, d, set, c, preset, p);
-    let mut q = p;
-    q.out = preset <= w;
-    q.word = w;
-    q
+    let word = ud_word(u, d, set, c, preset, p);
+    Place {
+        out: preset <= word,
+        word,
+        ..p
+    }
 }

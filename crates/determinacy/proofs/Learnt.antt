@@ -3,8 +3,11 @@ use Prim.Native.Nat.{ℕ}
 use mathlib.Core.Path.{◌≡◌, refl, sym, ◌∙◌}
 use mathlib.Core.List.{List}
 use lib.ListN.{length-replicate}
+use denote.RattleType.{RattleType}
+use denote.Param.Laws.{Laws, IsCopy}
+use mir.Syntax.{Dict}
+use Rattle.std.specs.declared.clone.Clone.{Ghosts}
 use Rattle.typed.proofs.Answering.{one_answer}
-use lib.ListN.{length-replicate}
 use Rattle.determinacy.specs.Determinacy.{log_from, columns_from, image_from, image_read_from, arrays_from}
 use Rattle.determinacy.proofs.Loose.{filled, differ}
 use Rattle.terms.proofs.signed.Reads as terms_signed
@@ -44,10 +47,9 @@ use Rattle.inspection.proofs.good.Reads as inspection_good
 use Rattle.inspection.proofs.is_late.Reads as inspection_is_late
 use Rattle.log_book.proofs.close.Reads as logbook_close
 use Rattle.log_book.proofs.hand_out.Reads as logbook_hand_out
-use Rattle.copies.proofs.copy_ticks.Reads as copies_copy_ticks
-use Rattle.copies.proofs.copy_pins.Reads as copies_copy_pins
 use Rattle.loading.proofs.load_bits.Reads as loading_load_bits
 use Rattle.loading.proofs.load_words.Reads as loading_load_words
+use Rattle.copies.proofs.copy_first.Reads as copies_copy_first
 use Rattle.copies.proofs.store_words.Reads as copies_store_words
 use Rattle.copies.proofs.store_outputs.Reads as copies_store_outputs
 use Rattle.numbers.proofs.read_number.Reads as numbers_read_number
@@ -109,6 +111,8 @@ use Rattle.io.proofs.buffer.Reads as io_buffer
 use Rattle.wire.proofs.Answered.{one_read}
 use Rattle.nodes.proofs.Answered.{one_node, one_pass}
 use Rattle.expression.proofs.Answered.{one_value}
+use Rattle.block.proofs.Answered.{one_row, one_brief}
+use Rattle.running.proofs.Answered.{one_turn}
 use Rattle.determinacy.proofs.Same.{same_two, kept_same, went_same, listed_same, formulas_same}
 
 -- any two answers that meet a contract on the same arguments are equal
@@ -120,7 +124,7 @@ abbrev pub DeterminedWith : {L : Type 0} {K : Type 0} {A B E : K → Type 0} →
 DeterminedWith {L} {K} {A} {B} {E} lent Learnt =
     (κ : K) (a : A κ) (x y : B κ) (u v : E κ) → Learnt κ a x u → Learnt κ a y v → (x ≡ y) × (lent κ u ≡ lent κ v)
 
-pub record Determinacy : Type 0 where
+pub record Determinacy : Type 2 where
   pub terms_signed : Determined terms_signed.Learnt
   pub terms_hold : Determined terms_hold.Learnt
   pub terms_refusal_number : Determined terms_refusal_number.Learnt
@@ -158,8 +162,7 @@ pub record Determinacy : Type 0 where
   pub inspection_is_late : Determined inspection_is_late.Learnt
   pub logbook_close : DeterminedWith (λ κ u. log_from u.1.1) logbook_close.Learnt
   pub logbook_hand_out : DeterminedWith (λ κ u. log_from u) logbook_hand_out.Learnt
-  pub copies_copy_ticks : DeterminedWith (λ κ u. u.1.1.0.now) copies_copy_ticks.Learnt
-  pub copies_copy_pins : DeterminedWith (λ κ u. u.1.1.0.now) copies_copy_pins.Learnt
+  pub copies_copy_first : (T : RattleType) (l : Laws T) (c : IsCopy T) (g : Ghosts T.Denot) (d : Dict) → DeterminedWith (λ κ u. u.1.1.0.now) (copies_copy_first.Learnt T l c g d)
   pub loading_load_bits : DeterminedWith (λ κ u. u.1.1.1.0.now) loading_load_bits.Learnt
   pub loading_load_words : DeterminedWith (λ κ u. u.1.1.1.0.now) loading_load_words.Learnt
   pub copies_store_words : DeterminedWith (λ κ u. u.1.1.0.now) copies_store_words.Learnt
@@ -268,8 +271,7 @@ all =
       inspection_is_late = λ κ a x y u v h k. cc;
       logbook_close = λ κ a x y u v h k. (h.0 ∙ sym k.0, h.1 ∙ sym k.1);
       logbook_hand_out = λ κ a x y u v h k. (h.0 ∙ sym k.0, h.1 ∙ sym k.1);
-      copies_copy_ticks = λ κ a x y u v h k. (refl, h ∙ sym k);
-      copies_copy_pins = λ κ a x y u v h k. (refl, h ∙ sym k);
+      copies_copy_first = λ T l c g d κ a x y u v h k. (refl, h ∙ sym k);
       loading_load_bits = λ κ a x y u v h k. (refl, h ∙ sym k);
       loading_load_words = λ κ a x y u v h k. (refl, h ∙ sym k);
       copies_store_words = λ κ a x y u v h k. (refl, h ∙ sym k);
@@ -288,12 +290,12 @@ all =
       kinds_memory_of = λ κ a x y u v h k. cc;
       kinds_figure_of = λ κ a x y u v h k. cc;
       kinds_mark_of = λ κ a x y u v h k. cc;
-      block_read_row = λ κ a x y u v h k. cc;
-      block_read_block = λ κ a x y u v h k. cc;
+      block_read_row = λ κ a x y u v h k. one_row _ _ (h ∙ sym k);
+      block_read_block = λ κ a x y u v h k. one_brief _ _ (h ∙ sym k);
       program_accept = λ κ a x y u v h k. cc;
       expression_eval = λ κ a x y u v h k. one_value _ _ (h ∙ sym k);
       rules_apply = λ κ a x y u v h k. cc;
-      running_turn = λ κ a x y u v h k. (h.0 ∙ sym k.0, h.1 ∙ sym k.1);
+      running_turn = λ κ a x y u v h k. (one_turn _ _ (h.0 ∙ sym k.0), h.1 ∙ sym k.1);
       turns_turns = λ κ a x y u v h k. (h.0 ∙ sym k.0, h.1 ∙ sym k.1);
       trial_try_program = λ κ a x y u v h k. (h.0 ∙ sym k.0, h.1 ∙ sym k.1);
       scanning_run = λ κ a x y u v h k. (h.0 ∙ sym k.0, h.1 ∙ sym k.1);

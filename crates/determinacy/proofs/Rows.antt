@@ -4,9 +4,9 @@ use mathlib.Core.Path.{refl, sym, ◌∙◌}
 use mathlib.Core.List.{List}
 use Rattle.typed.proofs.Answering.{one_answer}
 use seplogic.Ra.Ura.{Ura}
-use base.Logic.{ent, emp}
+use base.Logic.{ent, emp, all_i}
 use types.Logic.{Logic}
-use Rattle.determinacy.specs.Determinacy.{Determined, DeterminedWith, log_from, columns_from, image_from, image_read_from, arrays_from}
+use Rattle.determinacy.specs.Determinacy.{DeterminedOfAny, Determined, DeterminedWith, log_from, columns_from, image_from, image_read_from, arrays_from}
 use Rattle.determinacy.proofs.Facts.{two, four, determined, determined_with}
 use Rattle.terms.specs.contracts.signed as terms_signed
 use Rattle.terms.specs.contracts.hold as terms_hold
@@ -45,8 +45,7 @@ use Rattle.inspection.specs.contracts.good as inspection_good
 use Rattle.inspection.specs.contracts.is_late as inspection_is_late
 use Rattle.log_book.specs.contracts.close as logbook_close
 use Rattle.log_book.specs.contracts.hand_out as logbook_hand_out
-use Rattle.copies.specs.contracts.copy_ticks as copies_copy_ticks
-use Rattle.copies.specs.contracts.copy_pins as copies_copy_pins
+use Rattle.copies.specs.contracts.copy_first as copies_copy_first
 use Rattle.loading.specs.contracts.load_bits as loading_load_bits
 use Rattle.loading.specs.contracts.load_words as loading_load_words
 use Rattle.copies.specs.contracts.store_words as copies_store_words
@@ -109,6 +108,8 @@ use Rattle.intake.specs.contracts.go_on as intake_go_on
 use Rattle.wire.proofs.Answered.{one_read}
 use Rattle.nodes.proofs.Answered.{one_node, one_pass}
 use Rattle.expression.proofs.Answered.{one_value}
+use Rattle.block.proofs.Answered.{one_row, one_brief}
+use Rattle.running.proofs.Answered.{one_turn}
 use Rattle.determinacy.proofs.Same.{same_two, kept_same, went_same, listed_same, formulas_same}
 
 module _ {M : Type 1} {𝓤 : Ura M} (𝓛 : Logic 𝓤) where
@@ -224,11 +225,10 @@ module _ {M : Type 1} {𝓤 : Ura M} (𝓛 : Logic 𝓤) where
   pub logbook_hand_out_row : ent 𝓤 (emp 𝓤) (DeterminedWith 𝓛 logbook_hand_out.ended (logbook_hand_out.clauses 𝓛) (λ κ u. log_from u))
   logbook_hand_out_row = determined_with 𝓛 logbook_hand_out.ended (logbook_hand_out.clauses 𝓛) (λ κ u. log_from u) (λ κs a g x y u v. four 𝓤 _ _ _ _ _ (λ h h' k k'. (h ∙ sym k, h' ∙ sym k')))
 
-  pub copies_copy_ticks_row : ent 𝓤 (emp 𝓤) (DeterminedWith 𝓛 copies_copy_ticks.ended (copies_copy_ticks.clauses 𝓛) (λ κ u. u.1.1.0.now))
-  copies_copy_ticks_row = determined_with 𝓛 copies_copy_ticks.ended (copies_copy_ticks.clauses 𝓛) (λ κ u. u.1.1.0.now) (λ κs a g x y u v. two 𝓤 _ _ _ (λ h k. (refl, h ∙ sym k)))
-
-  pub copies_copy_pins_row : ent 𝓤 (emp 𝓤) (DeterminedWith 𝓛 copies_copy_pins.ended (copies_copy_pins.clauses 𝓛) (λ κ u. u.1.1.0.now))
-  copies_copy_pins_row = determined_with 𝓛 copies_copy_pins.ended (copies_copy_pins.clauses 𝓛) (λ κ u. u.1.1.0.now) (λ κs a g x y u v. two 𝓤 _ _ _ (λ h k. (refl, h ∙ sym k)))
+  pub copies_copy_first_row : ent 𝓤 (emp 𝓤) (DeterminedOfAny 𝓛 {L = λ A. List A.Denot} copies_copy_first.ended (λ A g d. copies_copy_first.clauses A g d 𝓛) (λ A g d κ u. u.1.1.0.now))
+  copies_copy_first_row =
+      all_i 𝓤 _ (λ A. all_i 𝓤 _ (λ g. all_i 𝓤 _ (λ d.
+      determined_with 𝓛 (copies_copy_first.ended A g d) (copies_copy_first.clauses A g d 𝓛) (λ κ u. u.1.1.0.now) (λ κs a r x y u v. two 𝓤 _ _ _ (λ h k. (refl, h ∙ sym k))))))
 
   pub loading_load_bits_row : ent 𝓤 (emp 𝓤) (DeterminedWith 𝓛 loading_load_bits.ended (loading_load_bits.clauses 𝓛) (λ κ u. u.1.1.1.0.now))
   loading_load_bits_row = determined_with 𝓛 loading_load_bits.ended (loading_load_bits.clauses 𝓛) (λ κ u. u.1.1.1.0.now) (λ κs a g x y u v. two 𝓤 _ _ _ (λ h k. (refl, h ∙ sym k)))
@@ -285,10 +285,10 @@ module _ {M : Type 1} {𝓤 : Ura M} (𝓛 : Logic 𝓤) where
   kinds_mark_of_row = determined 𝓛 kinds_mark_of.ended (kinds_mark_of.clauses 𝓛) (λ κs a g x y u v. two 𝓤 _ _ _ (λ h k. cc))
 
   pub block_read_row_row : ent 𝓤 (emp 𝓤) (Determined 𝓛 block_read_row.ended (block_read_row.clauses 𝓛))
-  block_read_row_row = determined 𝓛 block_read_row.ended (block_read_row.clauses 𝓛) (λ κs a g x y u v. two 𝓤 _ _ _ (λ h k. cc))
+  block_read_row_row = determined 𝓛 block_read_row.ended (block_read_row.clauses 𝓛) (λ κs a g x y u v. two 𝓤 _ _ _ (λ h k. one_row _ _ (h ∙ sym k)))
 
   pub block_read_block_row : ent 𝓤 (emp 𝓤) (Determined 𝓛 block_read_block.ended (block_read_block.clauses 𝓛))
-  block_read_block_row = determined 𝓛 block_read_block.ended (block_read_block.clauses 𝓛) (λ κs a g x y u v. two 𝓤 _ _ _ (λ h k. cc))
+  block_read_block_row = determined 𝓛 block_read_block.ended (block_read_block.clauses 𝓛) (λ κs a g x y u v. two 𝓤 _ _ _ (λ h k. one_brief _ _ (h ∙ sym k)))
 
   pub program_accept_row : ent 𝓤 (emp 𝓤) (Determined 𝓛 program_accept.ended (program_accept.clauses 𝓛))
   program_accept_row = determined 𝓛 program_accept.ended (program_accept.clauses 𝓛) (λ κs a g x y u v. two 𝓤 _ _ _ (λ h k. cc))
@@ -300,7 +300,7 @@ module _ {M : Type 1} {𝓤 : Ura M} (𝓛 : Logic 𝓤) where
   rules_apply_row = determined 𝓛 rules_apply.ended (rules_apply.clauses 𝓛) (λ κs a g x y u v. two 𝓤 _ _ _ (λ h k. cc))
 
   pub running_turn_row : ent 𝓤 (emp 𝓤) (DeterminedWith 𝓛 running_turn.ended (running_turn.clauses 𝓛) (λ κ u. u.1.1.1.1.1.1.1.0.now))
-  running_turn_row = determined_with 𝓛 running_turn.ended (running_turn.clauses 𝓛) (λ κ u. u.1.1.1.1.1.1.1.0.now) (λ κs a g x y u v. four 𝓤 _ _ _ _ _ (λ h h' k k'. (h ∙ sym k, h' ∙ sym k')))
+  running_turn_row = determined_with 𝓛 running_turn.ended (running_turn.clauses 𝓛) (λ κ u. u.1.1.1.1.1.1.1.0.now) (λ κs a g x y u v. four 𝓤 _ _ _ _ _ (λ h h' k k'. (one_turn _ _ (h ∙ sym k), h' ∙ sym k')))
 
   pub turns_turns_row : ent 𝓤 (emp 𝓤) (DeterminedWith 𝓛 turns_turns.ended (turns_turns.clauses 𝓛) (λ κ u. arrays_from u.1.1.1.1.1))
   turns_turns_row = determined_with 𝓛 turns_turns.ended (turns_turns.clauses 𝓛) (λ κ u. arrays_from u.1.1.1.1.1) (λ κs a g x y u v. four 𝓤 _ _ _ _ _ (λ h h' k k'. (h ∙ sym k, h' ∙ sym k')))

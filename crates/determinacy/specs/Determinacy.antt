@@ -2,14 +2,17 @@
 -- `clauses` of a function is its contract, as Rattle reads it off the source; `learnt` is what its `ensures` says of an answer and of what is lent, at exit.
 use Rattle.std.specs.Prelude.{Bool, List, ◌≡◌, ℕ, ℤ}
 use Rattle.std.specs.Borrow.{Bor, MutBor}
+use Rattle.std.specs.declared.clone.Clone.{Ghosts}
 use seplogic.Ra.Ura.{Ura}
-use base.Logic.{SProp}
+use base.Logic.{SProp, all}
 use types.Logic.{Logic}
 use contract.Lifetimes.{Lfts}
 use contract.Monad.{Fun}
 use contract.Notation.{Connectives, connectives}
 use denote.Triple.Clauses.{Ended, Clauses, AtExit}
 use denote.Triple.Entry.{Args, Res}
+use denote.RattleType.{RattleType}
+use mir.Syntax.{Dict}
 use prog.Memory.{Memory}
 use prog.Routine.{Routine}
 use Rattle.image.specs.Image.{Log, log, Columns, columns, Image, image}
@@ -51,8 +54,7 @@ use Rattle.inspection.specs.contracts.good as inspection_good
 use Rattle.inspection.specs.contracts.is_late as inspection_is_late
 use Rattle.log_book.specs.contracts.close as logbook_close
 use Rattle.log_book.specs.contracts.hand_out as logbook_hand_out
-use Rattle.copies.specs.contracts.copy_ticks as copies_copy_ticks
-use Rattle.copies.specs.contracts.copy_pins as copies_copy_pins
+use Rattle.copies.specs.contracts.copy_first as copies_copy_first
 use Rattle.loading.specs.contracts.load_bits as loading_load_bits
 use Rattle.loading.specs.contracts.load_words as loading_load_words
 use Rattle.copies.specs.contracts.store_words as copies_store_words
@@ -168,6 +170,13 @@ module _ {M : Type 1} {𝓤 : Ura M} (𝓛 : Logic 𝓤) where
       ∀ₛ (λ (x : Res T.signature κs). ∀ₛ (λ (y : Res T.signature κs). ∀ₛ (λ (u : AtExit T κs). ∀ₛ (λ (v : AtExit T κs).
       (learnt T c κs a g x u ∧ₛ learnt T c κs a g y v) →ₛ ⌜ (x ≡ y) × (lent κs u ≡ lent κs v) ⌝)))))))
 
+  -- the same of a generic function, of any type that can be copied
+  abbrev pub DeterminedOfAny :
+      {L : RattleType → Type 0} (T : (A : RattleType) → Ghosts A.Denot → Dict → Ended) → ((A : RattleType) (g : Ghosts A.Denot) (d : Dict) → Contract (T A g d))
+      → ((A : RattleType) (g : Ghosts A.Denot) (d : Dict) (κs : Lfts (T A g d).signature.lifetimes) → AtExit (T A g d) κs → L A) → SProp 𝓤
+  DeterminedOfAny T c lent =
+      all 𝓤 (λ (A : RattleType). all 𝓤 (λ (g : Ghosts A.Denot). all 𝓤 (λ (d : Dict). DeterminedWith (T A g d) (c A g d) (lent A g d))))
+
   abbrev pub Determinacy : SProp 𝓤
   Determinacy =
       Determined terms_signed.ended (terms_signed.clauses 𝓛)
@@ -207,8 +216,7 @@ module _ {M : Type 1} {𝓤 : Ura M} (𝓛 : Logic 𝓤) where
       ∧ₛ Determined inspection_is_late.ended (inspection_is_late.clauses 𝓛)
       ∧ₛ DeterminedWith logbook_close.ended (logbook_close.clauses 𝓛) (λ κ u. log_from u.1.1)
       ∧ₛ DeterminedWith logbook_hand_out.ended (logbook_hand_out.clauses 𝓛) (λ κ u. log_from u)
-      ∧ₛ DeterminedWith copies_copy_ticks.ended (copies_copy_ticks.clauses 𝓛) (λ κ u. u.1.1.0.now)
-      ∧ₛ DeterminedWith copies_copy_pins.ended (copies_copy_pins.clauses 𝓛) (λ κ u. u.1.1.0.now)
+      ∧ₛ DeterminedOfAny {L = λ A. List A.Denot} copies_copy_first.ended (λ A g d. copies_copy_first.clauses A g d 𝓛) (λ A g d κ u. u.1.1.0.now)
       ∧ₛ DeterminedWith loading_load_bits.ended (loading_load_bits.clauses 𝓛) (λ κ u. u.1.1.1.0.now)
       ∧ₛ DeterminedWith loading_load_words.ended (loading_load_words.clauses 𝓛) (λ κ u. u.1.1.1.0.now)
       ∧ₛ DeterminedWith copies_store_words.ended (copies_store_words.clauses 𝓛) (λ κ u. u.1.1.0.now)

@@ -162,3 +162,8 @@ module _ (f : Bit → Bool) where
 
   pub steps_few : (k : Marks) (d l : ℕ) (s : List ℕ) (at : ℕ) {x : Bool} {q n m : ℕ} → valued f l (expr_at k d l s at) ≡ Done x q n m → q ≤ l
   steps_few k d l s at e = steps_of l (expr_at k d l s at) (λ t n. few k d l s at) e
+
+-- the lemmas by which one node's value follows from its parts' values, and an operator's from its second part's
+pub ruleset valuing = (value_not, value_broken, value_two)
+
+pub ruleset joining = (join_skipped, join_both, join_lost, join_broken, steps_few)

@@ -64,6 +64,7 @@ pub struct Value {
 
 // The expression at a place, where `depth` levels and `left` nodes are left and `bits` has what each bit reference reads as.
 #[cycle(eval_part_second)]
+#[tactic(auto, using(nodes::proofs::Expressions::reading, numbers::proofs::References::bit_code_lem, crate::proofs::Laws::valuing))]
 pub fn eval(
     s: &[u8],
     at: usize,
@@ -98,6 +99,7 @@ pub fn eval(
 }
 
 // Passes over a part: a leaf at once.
+#[tactic(auto, using(nodes::proofs::Expressions::reading))]
 fn skip(s: &[u8], at: usize, depth: u8, left: u8, marks: &[u8; 200]) -> Result<(u8, usize), Fault>
     ensures { passed_of_answer result ≡ passed left (expr_at marks.now depth left s.now at) }
 {
@@ -109,6 +111,7 @@ fn skip(s: &[u8], at: usize, depth: u8, left: u8, marks: &[u8; 200]) -> Result<(
 
 // The second part of an operator whose first part came to x in p steps.
 #[cycle(eval_part_second)]
+#[tactic(auto, using(crate::proofs::Laws::joining))]
 fn second(
     s: &[u8],
     at: usize,
@@ -142,6 +145,7 @@ fn second(
 
 // A part of an operator: a leaf is answered at once, anything else is evaluated.
 #[cycle(eval_part_second)]
+#[tactic(auto, using(nodes::proofs::Expressions::reading, numbers::proofs::References::bit_code_lem))]
 fn part(
     s: &[u8],
     at: usize,

@@ -10,6 +10,7 @@ use calls::{Handed, Scanned};
 use image::State;
 
 // One scan of a program.
+// Kept: arrays of fixed size, here and in `take` (fixed memory).
 pub fn scan(program: &[u8], state: State, elapsed: u16, bits: u32, words: [i16; 8]) -> Scanned
     ensures value { result ≡ scan_of program.now (inputs elapsed bits words) state }
     ensures bounded { result.steps ≤ (accepted program.now).steps }

@@ -1,5 +1,5 @@
 pub mod Listed
 pub mod Columns
-pub mod Walks
+pub mod Made
 pub mod Counts
 pub mod Images

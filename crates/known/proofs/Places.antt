@@ -6,8 +6,6 @@ use native.Mathlib.Omega.{arith}
 use Rattle.wire.specs.Reading.{Read, got, fault, and_then, IsGot, is_got, next_of}
 use Rattle.numbers.specs.Blocks.{Content}
 use Rattle.block.specs.Answers.{row_of}
-use Rattle.block.specs.declared.End.{End}
-use Rattle.block.specs.declared.End.TheVariants.{Next, Fault}
 
 pub no_fault : {A B : Type 0} {r : Read A} {n at : ℕ} → IsGot r → r ≡ fault n at → B
 no_fault (is_got a next e) f = let z : ◌≡◌ {A = ℕ} 0 1 = cc in absurd (omega arith)
@@ -16,12 +14,8 @@ pub got_first : {A B : Type 0} (r : Read A) (f : A → ℕ → Read B) → IsGot
 got_first (got a n) f h = is_got a n refl
 got_first (fault n at) f h = no_fault h refl
 
--- the place that the end of a row tells, whether it is read or refused
-abbrev pub place_of : End → ℕ
-place_of (Next at) = at
-place_of (Fault n at) = at
-
-pub row_place : (r : Read (List Content)) → place_of (row_of r).end ≡ next_of r
+-- the place after a row, whether it is read or refused
+pub row_place : (r : Read (List Content)) → next_of (row_of r) ≡ next_of r
 unfolding row_of
 row_place (got cs next) = refl
 row_place (fault n at) = refl

@@ -7,7 +7,7 @@ use Rattle.numbers.specs.Types.{kind_count}
 use Rattle.numbers.specs.Reading.{Marks}
 use Rattle.kinds.specs.Kinds.{fields_of, types_of}
 use Rattle.block.specs.Reading.{fields_at}
-use Rattle.block.specs.Answers.{row_of}
+use Rattle.block.specs.Answers.{row_of, numbers_in}
 use Rattle.layout.specs.Listed.{fields_text, line_text}
 use Rattle.listing.specs.declared.Line.{Line}
 
@@ -18,7 +18,7 @@ row_at m kind s at = fields_at m (types_of kind) 0 s at
 pub record IsRow (m : Marks) (kind : ℕ) (s : List ℕ) (at : ℕ) (fields : List ℕ) : Type 0 where
   pub known : kind < kind_count
   pub read : IsGot (row_at m kind s at)
-  pub numbers : fields ≡ (row_of (row_at m kind s at)).fields
+  pub numbers : fields ≡ numbers_in (row_of (row_at m kind s at))
 
 -- the text of fields that were read; where nothing was, there is none
 abbrev pub row_text : ℕ → Read (List Content) → List ℕ

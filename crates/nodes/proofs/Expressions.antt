@@ -47,6 +47,17 @@ sound k d l s at e =
     subst (Sound d l) e
     (sound_of d l at (typed_at k node_number 0 s at) (below_of 240 (typed_at k node_number 0 s at) (λ v n. typed_below k node_number 0 s at)))
 
+-- the same of each node by itself
+module _ (k : Marks) (d l : ℕ) (s : List ℕ) (at : ℕ) where
+  pub leaf_room : {r next : ℕ} → head_at k d l s at ≡ Leaf r next → (0 < d) × ((0 < l) × (r < 234))
+  leaf_room e = sound k d l s at e
+
+  pub one_room : {next : ℕ} → head_at k d l s at ≡ One next → (0 < d) × (0 < l)
+  one_room e = sound k d l s at e
+
+  pub two_room : {op next : ℕ} → head_at k d l s at ≡ Two op next → (0 < d) × ((0 < l) × ((0 < op) × (op < 6)))
+  two_room e = sound k d l s at e
+
 -- one node, over the readers of its parts at one level less
 stop_deep : (f g : ℕ → ℕ → Read Expr) (left : ℕ) (n : Node) → Sound 0 left n → grow f left n ≡ grow g left n
 stop_deep f g left (Stop n at) t = refl
@@ -163,3 +174,8 @@ module _ (k : Marks) (d l : ℕ) (s : List ℕ) (at : ℕ) where
 
   pub expr_fault : {n p : ℕ} → passed l (expr_at k d l s at) ≡ Fault n p → expr_at k d l s at ≡ fault n p
   expr_fault h = passed_stop l (expr_at k d l s at) h
+
+-- the lemmas by which an expression is passed over, and by which a node is read before its parts
+pub ruleset passing = (leaf_room, one_room, two_room, on_stop, on_leaf, on_one, on_two, on_two_leaf, on_fault)
+
+pub ruleset reading = (leaf_room, one_room, two_room, on_leaf, step)

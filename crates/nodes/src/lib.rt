@@ -46,6 +46,7 @@ pub fn head(
 
 // Passes over the expression at a place, from node to node, and over the first of two parts by itself where it is no leaf.
 // What is left of `left` nodes, and the place after the expression.
+#[tactic(auto, using(crate::proofs::Expressions::passing))]
 pub fn pass(
     s: &[u8],
     at: usize,

@@ -30,40 +30,35 @@ impl Place {
     pub fn pin(self, n: u8) -> Place
         ensures { result ≡ pinned n self }
     {
-        let mut q = self;
-        q.pins = n;
-        q
+        Place { pins: n, ..self }
     }
 
     // Whether the first pin is on now and off in the last pins.
     pub fn first_rises(self, is_on: bool) -> bool
         ensures { result ≡ rises is_on (first_was self) }
     {
-        if is_on { self.pins % 2 != 1 } else { false }
+        is_on && self.pins % 2 != 1
     }
 
     // Whether the first pin is off now and on in the last pins.
     pub fn first_falls(self, is_on: bool) -> bool
         ensures { result ≡ falls is_on (first_was self) }
     {
-        if is_on { false } else { self.pins % 2 == 1 }
+        !is_on && self.pins % 2 == 1
     }
 
     // Whether the second pin is on now and off in the last pins.
     pub fn second_rises(self, is_on: bool) -> bool
         ensures { result ≡ rises is_on (second_was self) }
     {
-        if is_on { self.pins / 2 % 2 != 1 } else { false }
+        is_on && self.pins / 2 % 2 != 1
     }
 
     // Whether the first or the second pin differs from its last.
     pub fn either_differs(self, first: bool, second: bool) -> bool
         ensures { result ≡ either_differs first second self }
     {
-        if first != (self.pins % 2 == 1) {
-            return true;
-        }
-        second != (self.pins / 2 % 2 == 1)
+        first != (self.pins % 2 == 1) || second != (self.pins / 2 % 2 == 1)
     }
 }
 
@@ -71,5 +66,5 @@ impl Place {
 pub fn pack(a: bool, b: bool, c: bool, d: bool) -> u8
     ensures { result ≡ packed (a ∷ b ∷ c ∷ d ∷ []) }
 {
-    (a as u8) + 2 * ((b as u8) + 2 * ((c as u8) + 2 * (d as u8)))
+    u8::from(a) + 2 * (u8::from(b) + 2 * (u8::from(c) + 2 * u8::from(d)))
 }

@@ -10,7 +10,6 @@ use Rattle.numbers.specs.Blocks.{Bit}
 use Rattle.numbers.specs.Types.{pin, alarm_count, bit_ref}
 use Rattle.wire.specs.Reading.{Read, got, fault, and_then}
 use Rattle.numbers.specs.Reading.{Marks, typed_at}
-use Rattle.block.specs.declared.End.TheVariants.{Next, Fault}
 use Rattle.program.specs.Program.{references_at, end_at, alarms_at}
 use Rattle.program.specs.Answers.{end_of}
 
@@ -31,13 +30,13 @@ module _ (k : Marks) (s : List ℕ) (at : ℕ) where
       let d : n ≡ suc (n - 1) = omega arith in
       ap (λ (n : ℕ). end_of (references_at k n s at)) d ∙ references_then (typed_at k pin 0 s at) (λ at. references_at k (n - 1) s at) e
 
-  pub references_stop : {n x p : ℕ} → 0 < n → typed_at k pin 0 s at ≡ fault x p → end_of (references_at k n s at) ≡ Fault x p
+  pub references_stop : {n x p : ℕ} → 0 < n → typed_at k pin 0 s at ≡ fault x p → end_of (references_at k n s at) ≡ fault x p
   unfolding references_at
   references_stop {n} h e =
       let d : n ≡ suc (n - 1) = omega arith in
       ap (λ (n : ℕ). end_of (references_at k n s at)) d ∙ rw e
 
-  pub references_end : {n : ℕ} → n ≡ 0 → end_of (references_at k n s at) ≡ Next at
+  pub references_end : {n : ℕ} → n ≡ 0 → end_of (references_at k n s at) ≡ got at at
   unfolding references_at
   references_end h = rw h
 
@@ -45,35 +44,35 @@ module _ (k : Marks) (s : List ℕ) (at : ℕ) where
 pub data Ended {A : Type 0} (r : Read A) (next : ℕ) : Type 0 where
   ended : (a : A) → r ≡ got a next → Ended r next
 
-pub end_got : {A : Type 0} (r : Read A) {next : ℕ} → end_of r ≡ Next next → Ended r next
+pub end_got : {A : Type 0} (r : Read A) {next : ℕ} → end_of r ≡ got next next → Ended r next
 end_got (got a n) e = ended a (cc)
 end_got (fault x at) e = let z : ◌≡◌ {A = ℕ} 0 1 = cc in absurd (omega arith)
 
-pub end_stop : {A : Type 0} (r : Read A) {x p : ℕ} → end_of r ≡ Fault x p → r ≡ fault x p
+pub end_stop : {A : Type 0} (r : Read A) {x p : ℕ} → end_of r ≡ fault x p → r ≡ fault x p
 end_stop (got a n) e = let z : ◌≡◌ {A = ℕ} 0 1 = cc in absurd (omega arith)
 end_stop (fault x at) e = cc
 
 -- the alarms, by their count and their references
 module _ (k : Marks) (s : List ℕ) (at : ℕ) where
-  pub alarms_bad : {x p : ℕ} → typed_at k alarm_count 0 s at ≡ fault x p → Fault x p ≡ end_of (alarms_at k s at)
+  pub alarms_bad : {x p : ℕ} → typed_at k alarm_count 0 s at ≡ fault x p → fault x p ≡ end_of (alarms_at k s at)
   unfolding alarms_at
   alarms_bad e = rw e
 
   module _ {n next : ℕ} (e : typed_at k alarm_count 0 s at ≡ got n next) where
-    pub alarms_stop : {x p : ℕ} → end_of (references_at k n s next) ≡ Fault x p → Fault x p ≡ end_of (alarms_at k s at)
+    pub alarms_stop : {x p : ℕ} → end_of (references_at k n s next) ≡ fault x p → fault x p ≡ end_of (alarms_at k s at)
     unfolding alarms_at
     alarms_stop h = rw (e, end_stop (references_at k n s next) h)
 
-    pub alarms_more : {end : ℕ} → end_of (references_at k n s next) ≡ Next end → end < length s → Fault outside end ≡ end_of (alarms_at k s at)
+    pub alarms_more : {end : ℕ} → end_of (references_at k n s next) ≡ got end end → end < length s → fault outside end ≡ end_of (alarms_at k s at)
     unfolding alarms_at end_at
     alarms_more {end} h l = go (end_got (references_at k n s next) h)
       where
-        go : Ended (references_at k n s next) end → Fault outside end ≡ end_of (alarms_at k s at)
+        go : Ended (references_at k n s next) end → fault outside end ≡ end_of (alarms_at k s at)
         go (ended rs w) = rw (e, w, lt-ltb _ _ l)
 
-    pub alarms_end : {end : ℕ} → end_of (references_at k n s next) ≡ Next end → length s ≤ end → Next end ≡ end_of (alarms_at k s at)
+    pub alarms_end : {end : ℕ} → end_of (references_at k n s next) ≡ got end end → length s ≤ end → got end end ≡ end_of (alarms_at k s at)
     unfolding alarms_at end_at
     alarms_end {end} h l = go (end_got (references_at k n s next) h)
       where
-        go : Ended (references_at k n s next) end → Next end ≡ end_of (alarms_at k s at)
+        go : Ended (references_at k n s next) end → got end end ≡ end_of (alarms_at k s at)
         go (ended rs w) = rw (e, w, le-ltb _ _ l)

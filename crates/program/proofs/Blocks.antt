@@ -1,6 +1,6 @@
 -- Laws of a program's blocks and marks: one more of each before the rest. Assumes nothing.
 use Prim.Native.Nat.{ℕ, zero, suc, ◌+◌, ◌-◌, ◌<◌, ◌≤◌}
-use mathlib.Core.Path.{◌≡◌, refl, subst, ◌∙◌}
+use mathlib.Core.Path.{◌≡◌, refl, ap, subst, ◌∙◌}
 use mathlib.Core.List.{List, ◌∷◌, map}
 use native.Mathlib.Omega.{arith}
 use native.Mathlib.Nat.{add-zero}
@@ -14,11 +14,10 @@ use Rattle.numbers.specs.Reading.{Marks}
 use Rattle.block.specs.Reading.{block_at}
 use Rattle.block.specs.Answers.{brief_of}
 use Rattle.wire.proofs.Gives.{Long, gives_after, long_cons}
-use Rattle.block.specs.declared.Brief.TheVariants.{Got as BriefGot, Fault as BriefFault}
-use Rattle.block.specs.declared.End.TheVariants.{Next}
+use Rattle.block.specs.declared.Brief.{Brief}
 use Rattle.program.specs.Program.{blocks_at, memory, figure}
 use Rattle.program.specs.Acceptance.{marks_of}
-use Rattle.program.specs.Answers.{blank_reading, read_from}
+use Rattle.program.specs.Answers.{read_from}
 
 -- one block before the rest
 from_cons :
@@ -31,40 +30,41 @@ from_cons i l m f b (got bs end) =
 from_cons i l m f b (fault n at) = refl
 
 from_got :
-    (i : ℕ) (l : List ℕ) (m f : ℕ) (r : Read Block) (rest : ℕ → Read (List Block)) {v w x next : ℕ} → brief_of r ≡ BriefGot v w x next →
+    (i : ℕ) (l : List ℕ) (m f : ℕ) (r : Read Block) (rest : ℕ → Read (List Block)) {x : Brief} {next : ℕ} → brief_of r ≡ got x next →
     read_from i l m f (and_then r (λ b at. and_then (rest at) (λ bs end. got (b ∷ bs) end)))
-    ≡ read_from (i + 1) (set l i x) (m + v) (f + w) (rest next)
-from_got i l m f (got b at) rest {v} {w} {x} {next} e =
-    let ev : memory_of b ≡ v = cc in
-    let ew : figure_of b ≡ w = cc in
-    let ex : mark_of b ≡ x = cc in
+    ≡ read_from (i + 1) (set l i x.mark) (m + x.memory) (f + x.figure) (rest next)
+from_got i l m f (got b at) rest {x} {next} e =
+    let h : record { memory = memory_of b; figure = figure_of b; mark = mark_of b; next = at } ≡ x = cc in
+    let ev : memory_of b ≡ x.memory = ap (λ (y : Brief). y.memory) h in
+    let ew : figure_of b ≡ x.figure = ap (λ (y : Brief). y.figure) h in
+    let ex : mark_of b ≡ x.mark = ap (λ (y : Brief). y.mark) h in
     let en : at ≡ next = cc in
     from_cons i l m f b (rest at) ∙ rw (ev, ew, ex, en)
 from_got i l m f (fault n at) rest e = let z : ◌≡◌ {A = ℕ} 0 1 = cc in absurd (omega arith)
 
 from_stop :
-    (i : ℕ) (l : List ℕ) (m f : ℕ) (r : Read Block) (g : Block → ℕ → Read (List Block)) {n p : ℕ} → brief_of r ≡ BriefFault n p →
-    read_from i l m f (and_then r g) ≡ blank_reading n p
+    (i : ℕ) (l : List ℕ) (m f : ℕ) (r : Read Block) (g : Block → ℕ → Read (List Block)) {n p : ℕ} → brief_of r ≡ fault n p →
+    read_from i l m f (and_then r g) ≡ fault n p
 from_stop i l m f (got b at) g e = let z : ◌≡◌ {A = ℕ} 0 1 = cc in absurd (omega arith)
 from_stop i l m f (fault n at) g e = cc
 
 module _ (k : Marks) (i : ℕ) (l : List ℕ) (m f : ℕ) (s : List ℕ) (at : ℕ) where
-  pub blocks_got : {n v w x next : ℕ} → i < n → brief_of (block_at k s at) ≡ BriefGot v w x next
-      → read_from i l m f (blocks_at k (n - i) s at) ≡ read_from (i + 1) (set l i x) (m + v) (f + w) (blocks_at k (n - (i + 1)) s next)
+  pub blocks_got : {n next : ℕ} {x : Brief} → i < n → brief_of (block_at k s at) ≡ got x next
+      → read_from i l m f (blocks_at k (n - i) s at) ≡ read_from (i + 1) (set l i x.mark) (m + x.memory) (f + x.figure) (blocks_at k (n - (i + 1)) s next)
   unfolding blocks_at
   blocks_got {n} h e =
       let d : n - i ≡ suc (n - (i + 1)) = omega arith in
       rw d (from_got i l m f (block_at k s at) (λ at. blocks_at k (n - (i + 1)) s at) e)
 
-  pub blocks_stop : {n x p : ℕ} → i < n → brief_of (block_at k s at) ≡ BriefFault x p
-      → read_from i l m f (blocks_at k (n - i) s at) ≡ blank_reading x p
+  pub blocks_stop : {n x p : ℕ} → i < n → brief_of (block_at k s at) ≡ fault x p
+      → read_from i l m f (blocks_at k (n - i) s at) ≡ fault x p
   unfolding blocks_at
   blocks_stop {n} h e =
       let d : n - i ≡ suc (n - (i + 1)) = omega arith in
       rw d (from_stop i l m f (block_at k s at) _ e)
 
   pub blocks_end : {n : ℕ} → n ≤ i
-      → read_from i l m f (blocks_at k (n - i) s at) ≡ record { memory = m; steps = f; marks = l; end = Next at }
+      → read_from i l m f (blocks_at k (n - i) s at) ≡ got (record { memory = m; steps = f; marks = l; next = at }) at
   unfolding blocks_at
   blocks_end {n} h =
       let d : n - i ≡ 0 = omega arith in

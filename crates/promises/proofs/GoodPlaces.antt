@@ -20,7 +20,7 @@ use Rattle.place.specs.Places.{fresh_place}
 use Rattle.switches.specs.Switches.{bl, sr, pl, al}
 use Rattle.counters.specs.Counters.{cn, ud}
 use Rattle.timers.specs.Timers.{ticks_in, dl, os, fl}
-use Rattle.timers.proofs.Times.{ticks_least, ticks_most}
+use Rattle.promises.proofs.Times.{ticks_least, ticks_most}
 use Rattle.timing.proofs.Left.{dl_left, os_left, fl_left}
 use Rattle.analog.specs.Analog.{cp, og, zc, st}
 use Rattle.terms.specs.Bits.{packed}

@@ -14,6 +14,7 @@ use Rattle.journal.specs.declared.Entry.{Entry}
 use Rattle.journal.specs.declared.Stamp.{Stamp}
 use Rattle.journal.specs.declared.Journal.{Journal}
 use Rattle.journal.specs.declared.Taken.{Taken}
+use Rattle.std.specs.Prelude.{is_some, unwrap_or}
 use Rattle.terms.specs.Choice.{pick}
 use Rattle.journal.specs.Journal.{entry_of, zero_entry, stored, stored_all, taken}
 use Rattle.promises.specs.History.{Ledger, entered, entered_all, crossed}
@@ -109,9 +110,9 @@ front [] h p = absurd (omega arith)
 front (x ∷ l) h p = rw add-one
 
 pub record Hands (j : Journal) (l : Ledger) (out : List Entry) (r : Taken) : Type 0 where
-  pub keeps : Keeps r.journal (crossed l) (out ++ pick r.found (r.entry ∷ []) [])
-  pub found : r.found ≡ ltb l.taken (length l.kept)
-  pub oldest : r.entry ≡ get_or l.kept l.taken zero_entry
+  pub keeps : Keeps r.journal (crossed l) (out ++ pick (is_some r.entry) (unwrap_or r.entry zero_entry ∷ []) [])
+  pub found : is_some r.entry ≡ ltb l.taken (length l.kept)
+  pub oldest : unwrap_or r.entry zero_entry ≡ get_or l.kept l.taken zero_entry
 
 pub hands : {j : Journal} {l : Ledger} {out : List Entry} → Keeps j l out → Hands j l out (taken j)
 unfolding taken crossed

@@ -1,6 +1,7 @@
 pub mod Refusals
 pub mod ReadPrograms
 pub mod EachKind
+pub mod Times
 pub mod GoodPlaces
 pub mod GoodJournal
 pub mod Closed

@@ -1,3 +1,4 @@
 pub mod Rows
 pub mod Turning
 pub mod Asks
+pub mod Answered

@@ -19,11 +19,9 @@ use Rattle.block.specs.Reading.{content_at, fields_at}
 use Rattle.numbers.proofs.References.{content_code, content_nodes}
 use Rattle.kinds.proofs.KindTable.{types_few, type_plain}
 use Rattle.numbers.proofs.Typed.{typed_allowed}
-use Rattle.block.proofs.Rows.{row_stopped}
 use Rattle.wire.proofs.Gives.{Long, gives_after, long_cons}
 use Rattle.block.specs.Answers.{row_of}
 use Rattle.block.specs.declared.Row.{Row}
-use Rattle.block.specs.declared.End.TheVariants.{Next, Fault as EndFault}
 use Rattle.rules.specs.Rules.{steps_of}
 use Rattle.rules.specs.Rows.{all_allowed, contents}
 
@@ -129,25 +127,23 @@ said k kind lt ne s at {cs} e =
     (held_by cs 0 (map code_of cs) (λ j p. let z : 0 + j ≡ j = omega arith in rw z))
 
 -- the row of a block that is no BL, as it was read
-module _ (k : Marks) (kind : ℕ) (lt : kind < kind_count) (ne : 0 < kind) (s : List ℕ) (at : ℕ) (r : Row) (e : r ≡ row_of (fields_at k (types_of kind) 0 s at)) where
-  pub record Ran (next : ℕ) : Type 0 where
+module _ (k : Marks) (kind : ℕ) (lt : kind < kind_count) (ne : 0 < kind) (s : List ℕ) (at : ℕ) (r : Row) where
+  pub record Ran : Type 0 where
     pub allow : all_allowed (types_of kind) 0 0 r.fields ≡ true
-    pub read : fields_at k (types_of kind) 0 s at ≡ got (contents (types_of kind) 0 r.fields) next
+    pub read : fields_at k (types_of kind) 0 s at ≡ got (contents (types_of kind) 0 r.fields) r.next
     pub one : (f : Bit → Bool) → steps_of f (contents (types_of kind) 0 r.fields) ≡ 1
     pub bare : nodes_in (contents (types_of kind) 0 r.fields) ≡ 0
 
-  pub ran : {next : ℕ} → r.end ≡ Next next → Ran next
+  pub ran : got r r.next ≡ row_of (fields_at k (types_of kind) 0 s at) → Ran
   unfolding row_of
-  ran {next} h = go (fields_at k (types_of kind) 0 s at) refl (rw e at h)
+  ran e = go (fields_at k (types_of kind) 0 s at) refl e
     where
-      go : (q : Read (List Content)) → fields_at k (types_of kind) 0 s at ≡ q → (row_of q).end ≡ Next next → Ran next
+      go : (q : Read (List Content)) → fields_at k (types_of kind) 0 s at ≡ q → got r r.next ≡ row_of q → Ran
       go (got cs n) w u =
-          let f : r.fields ≡ sets (replicate 5 0) 0 (map code_of cs) = ap (λ (x : Row). x.fields) (e ∙ ap row_of w) in
+          let en : n ≡ r.next = cc in
+          let h : r ≡ record { fields = sets (replicate 5 0) 0 (map code_of cs); nodes = 0 + nodes_in cs; next = n } = cc in
+          let f : r.fields ≡ sets (replicate 5 0) 0 (map code_of cs) = ap (λ (x : Row). x.fields) h in
           let five : length cs ≤ 5 = omega (arith, fields_long k (types_of kind) 0 s at w, types_few kind lt) in
           let m = row k s (sets (replicate 5 0) 0 (map code_of cs)) (plain_by (types_of kind) (type_plain kind lt ne)) 0 0 at cs w (stored_held cs five) in
-          let en : n ≡ next = cc in
           record { allow = rw f m.allow; read = rw (f, m.same, ← en) w; one = rw (f, m.same) m.one; bare = rw (f, m.same) m.bare }
       go (fault x y) w u = let z : ◌≡◌ {A = ℕ} 0 1 = cc in absurd (omega arith)
-
-  pub lost : {x p : ℕ} → r.end ≡ EndFault x p → fields_at k (types_of kind) 0 s at ≡ fault x p
-  lost h = row_stopped k (types_of kind) 0 s at r e h

@@ -10,11 +10,11 @@ ghost use Rattle.block.specs.Reading.{fields_at, block_at};
 ghost use Rattle.expression.specs.Expression.{bit_in};
 ghost use Rattle.rules.specs.Rules.{word_in};
 ghost use Rattle.rules.specs.Rows.{contents};
-ghost use Rattle.running.specs.Turns.{block_read, no_turn, turn_of, asked_after};
+ghost use Rattle.running.specs.Turns.{block_read, turn_of, turned_of_answer, asked_after};
 
-use block::End;
 use place::Place;
 use rules::Readings;
+use terms::Fault;
 
 // Marks the block that a word reference asks for its word.
 fn ask_word(r: u32, asked: &mut [u8; 200])
@@ -63,38 +63,28 @@ pub struct Turned {
     pub steps: u32,
     pub memory: u32,
     pub mark: u8,
-    pub end: End,
-}
-
-// Nothing happens where there is no block.
-fn none(p: Place, no: u8, at: usize) -> Turned
-    ensures { result ≡ no_turn p no at }
-{
-    Turned {
-        place: p,
-        steps: 0,
-        memory: 0,
-        mark: 0,
-        end: End::Fault(no, at),
-    }
+    pub next: usize,
 }
 
 // The turn of a BL whose expression stands at a place.
-fn turn_bl(s: &[u8], at: usize, p: Place, bits: &[bool; 234], marks: &[u8; 200]) -> Turned
-    ensures { (g : Word → ℤ) (e : ℕ) → result
+fn turn_bl(
+    s: &[u8],
+    at: usize,
+    p: Place,
+    bits: &[bool; 234],
+    marks: &[u8; 200],
+) -> Result<Turned, Fault>
+    ensures { (g : Word → ℤ) (e : ℕ) → turned_of_answer result
         ≡ turn_of (bit_in bits.now) g e p (block_read 0 (fields_at marks.now (types_of 0) 0 s.now at)) }
 {
-    let v = expression::eval(s, at, nodes::MOST_DEEP, nodes::MOST_NODES, bits, marks);
-    match v {
-        Err(f) => none(p, f.refusal.number(), f.at),
-        Ok(v) => Turned {
-            place: switches::bl(v.on, p),
-            steps: v.steps,
-            memory: kinds::memory_of(0) + ((nodes::MOST_NODES - v.left) as u32),
-            mark: kinds::mark_of(0),
-            end: End::Next(v.next),
-        },
-    }
+    let v = expression::eval(s, at, nodes::MOST_DEEP, nodes::MOST_NODES, bits, marks)?;
+    Ok(Turned {
+        place: switches::bl(v.on, p),
+        steps: v.steps,
+        memory: kinds::memory_of(0) + ((nodes::MOST_NODES - v.left) as u32),
+        mark: kinds::mark_of(0),
+        next: v.next,
+    })
 }
 
 // The turn of a block of another kind, whose fields stand at a place.
@@ -108,36 +98,29 @@ fn turn_row(
     e: u16,
     marks: &[u8; 200],
     asked: &mut [u8; 200],
-) -> Turned
+) -> Result<Turned, Fault>
     requires { (kind < kind_count) × (0 < kind) }
-    ensures value { result
+    ensures value { turned_of_answer result
         ≡ turn_of (bit_in bits.now) (word_in words.now) e p (block_read kind (fields_at marks.now (types_of kind) 0 s.now at)) }
     ensures asks { asked.new
         ≡ asked_after asked.old (block_read kind (fields_at marks.now (types_of kind) 0 s.now at)) }
 {
-    let row = block::read_row(s, at, kind, marks);
-    let fields = row.fields;
-    let end = row.end;
-    match end {
-        End::Fault(no, place) => none(p, no, place),
-        End::Next(next) => {
-            if 9 <= kind {
-                ask_words(kind, fields, asked);
-            }
-            let now = Readings {
-                bits,
-                words,
-                elapsed: e,
-            };
-            Turned {
-                place: rules::apply(kind, fields, p, now),
-                steps: 1,
-                memory: kinds::memory_of(kind),
-                mark: kinds::mark_of(kind),
-                end: End::Next(next),
-            }
-        }
+    let row = block::read_row(s, at, kind, marks)?;
+    if 9 <= kind {
+        ask_words(kind, row.fields, asked);
     }
+    let now = Readings {
+        bits,
+        words,
+        elapsed: e,
+    };
+    Ok(Turned {
+        place: rules::apply(kind, row.fields, p, now),
+        steps: 1,
+        memory: kinds::memory_of(kind),
+        mark: kinds::mark_of(kind),
+        next: row.next,
+    })
 }
 
 // The turn of the block at a place, where `bits` and `words` have what each reference reads as; in `asked` it marks the blocks
@@ -151,19 +134,14 @@ pub fn turn(
     e: u16,
     marks: &[u8; 200],
     asked: &mut [u8; 200],
-) -> Turned
-    ensures value { result ≡ turn_of (bit_in bits.now) (word_in words.now) e p (block_at marks.now s.now at) }
+) -> Result<Turned, Fault>
+    ensures value { turned_of_answer result ≡ turn_of (bit_in bits.now) (word_in words.now) e p (block_at marks.now s.now at) }
     ensures asks { asked.new ≡ asked_after asked.old (block_at marks.now s.now at) }
 {
-    let n = numbers::read_number(s, at, numbers::KIND_NUMBER, 0, marks);
-    match n {
-        Err(f) => none(p, f.refusal.number(), f.at),
-        Ok((v, next)) => {
-            if v == 0 {
-                return turn_bl(s, next, p, bits, marks);
-            }
-            let kind = v as u8;
-            turn_row(s, next, kind, p, bits, words, e, marks, asked)
-        }
+    let (v, start) = numbers::read_number(s, at, numbers::KIND_NUMBER, 0, marks)?;
+    if v == 0 {
+        return turn_bl(s, start, p, bits, marks);
     }
+    let kind = v as u8;
+    turn_row(s, start, kind, p, bits, words, e, marks, asked)
 }

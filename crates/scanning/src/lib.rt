@@ -34,12 +34,12 @@ fn run_counted(
     let mut q = [0u8; 200];
     loading::load_bits(n, bits, outputs, &mut v);
     loading::load_words(n, analogs, words, &mut w);
-    copies::copy_ticks(n, ticks, &mut t);
-    copies::copy_pins(n, pins, &mut q);
+    copies::copy_first(n, ticks, &mut t);
+    copies::copy_first(n, pins, &mut q);
     let r = trial::try_program(program, start, n, elapsed, &mut v, &mut w, &mut t, &mut q)?;
-    copies::copy_ticks(n, &t, ticks);
+    copies::copy_first(n, &t, ticks);
     copies::store_words(n, &w, words);
-    copies::copy_pins(n, &q, pins);
+    copies::copy_first(n, &q, pins);
     copies::store_outputs(n, &v, outputs);
     Some(r)
 }
@@ -61,11 +61,10 @@ pub fn run(
 {
     image::columns_sized(ticks, words, pins, outputs);
     let every = [2u8; 200];
-    let c = numbers::read_number(program, 0, numbers::BLOCK_COUNT, 0, &every);
-    match c {
-        Err(_) => None,
-        Ok((n, next)) => run_counted(
-            program, next, n, elapsed, bits, analogs, ticks, words, pins, outputs,
-        ),
-    }
+    let Ok((n, next)) = numbers::read_number(program, 0, numbers::BLOCK_COUNT, 0, &every) else {
+        return None;
+    };
+    run_counted(
+        program, next, n, elapsed, bits, analogs, ticks, words, pins, outputs,
+    )
 }

@@ -22,11 +22,9 @@ pub fn put_state(
 )
     ensures { after counts times numbers ticks words pins outputs ≡ image_of state }
 {
-    *counts = [state.time, 0, 0, state.alarms as u64];
-    let j = state.journal;
-    image::put_journal(j, counts, times, numbers);
-    let ps = state.places;
-    places::put_places(ps, ticks, words, pins, outputs);
+    *counts = [state.time, 0, 0, u64::from(state.alarms)];
+    image::put_journal(state.journal, counts, times, numbers);
+    places::put_places(state.places, ticks, words, pins, outputs);
 }
 
 // The state of arrays.

@@ -1,5 +1,5 @@
 // The rules of DL, OS and FL: from the values at a block's pins, its settings, the elapsed ticks and its old place to its new place.
-#![tactic(auto)]
+#![tactic(auto, unfolding(crate::specs::Timers::ticks_in, crate::specs::Timers::dl_ticks, crate::specs::Timers::dl, crate::specs::Timers::os, crate::specs::Timers::fl_ticks, crate::specs::Timers::fl))]
 
 ghost use Rattle.std.specs.Prelude.{◌≡◌, ◌+◌, ◌<◌, ◌≤◌};
 ghost use Rattle.terms.specs.Choice.{pick};
@@ -8,16 +8,16 @@ ghost use Rattle.timers.specs.Timers.{ticks_in, dl_ticks, dl, os, fl};
 use place::Place;
 
 // A time in ticks.
+// Kept: the unit is the number of a program's setting, as `ticks_in` has it (what may not change).
 fn ticks_in(unit: u32, time: u32) -> u64
     ensures { result ≡ ticks_in unit time }
 {
-    if unit == 0 {
-        return time as u64;
+    let in_unit = u64::from(time);
+    match unit {
+        0 => in_unit,
+        1 => in_unit * 10,
+        _ => in_unit * 100,
     }
-    if unit == 1 {
-        return (time as u64) * 10;
-    }
-    (time as u64) * 100
 }
 
 // The on time or the off time.
@@ -31,82 +31,96 @@ fn time_of(i: bool, on: u32, off: u32) -> u32
 fn dl_ticks(i: bool, c: bool, e: u16, p: Place) -> u64
     ensures { result ≡ dl_ticks i c e p }
 {
-    let kept = p.ticks as u64;
-    let grown = kept + (e as u64);
     if p.either_differs(i, c) {
         return 0;
     }
-    grown
+    u64::from(p.ticks) + u64::from(e)
 }
 
 pub fn dl(i: bool, c: bool, unit: u32, on: u32, off: u32, e: u16, p: Place) -> Place
     requires { (on ≤ 32767) × (off ≤ 32767) }
     ensures { result ≡ dl i c unit on off e p }
 {
-    let mut q = p;
     if c {
-        q.out = false;
-        q.ticks = 0;
-        return q;
+        return Place {
+            out: false,
+            ticks: 0,
+            ..p
+        };
     }
     if i == p.out {
-        q.ticks = 0;
-        return q;
+        return Place { ticks: 0, ..p };
     }
     let t = dl_ticks(i, c, e, p);
     if ticks_in(unit, time_of(i, on, off)) <= t {
-        q.out = i;
-        q.ticks = 0;
-        return q;
+        return Place {
+            out: i,
+            ticks: 0,
+            ..p
+        };
     }
-    q.ticks = t as u32;
-    q
+    Place {
+        ticks: t as u32,
+        ..p
+    }
 }
 
 pub fn os(i: bool, c: bool, unit: u32, time: u32, e: u16, p: Place) -> Place
     requires { time ≤ 32767 }
     ensures { result ≡ os i c unit time e p }
 {
-    let mut q = p;
     if c {
-        q.out = false;
-        q.ticks = 0;
-        return q;
+        return Place {
+            out: false,
+            ticks: 0,
+            ..p
+        };
     }
     if !p.out {
-        q.out = p.first_rises(i);
-        q.ticks = 0;
-        return q;
+        return Place {
+            out: p.first_rises(i),
+            ticks: 0,
+            ..p
+        };
     }
-    let t = (p.ticks as u64) + (e as u64);
+    let t = u64::from(p.ticks) + u64::from(e);
     if ticks_in(unit, time) <= t {
-        q.out = false;
-        q.ticks = 0;
-        return q;
+        return Place {
+            out: false,
+            ticks: 0,
+            ..p
+        };
     }
-    q.ticks = t as u32;
-    q
+    Place {
+        ticks: t as u32,
+        ..p
+    }
 }
 
 pub fn fl(i: bool, unit: u32, on: u32, off: u32, e: u16, p: Place) -> Place
     requires { (on ≤ 32767) × ((off ≤ 32767) × (0 < on + off)) }
     ensures { result ≡ fl i unit on off e p }
 {
-    let mut q = p;
     if !i {
-        q.out = false;
-        q.ticks = 0;
-        return q;
+        return Place {
+            out: false,
+            ticks: 0,
+            ..p
+        };
     }
     let on_ticks = ticks_in(unit, on);
     if p.first_rises(i) {
-        q.out = 0 < on_ticks;
-        q.ticks = 0;
-        return q;
+        return Place {
+            out: 0 < on_ticks,
+            ticks: 0,
+            ..p
+        };
     }
     let period = on_ticks + ticks_in(unit, off);
-    let t = ((p.ticks as u64) + (e as u64)) % period;
-    q.out = t < on_ticks;
-    q.ticks = t as u32;
-    q
+    let t = (u64::from(p.ticks) + u64::from(e)) % period;
+    Place {
+        out: t < on_ticks,
+        ticks: t as u32,
+        ..p
+    }
 }

@@ -6,7 +6,6 @@ ghost use Rattle.program.specs.Program.{references_at, alarms_at};
 ghost use Rattle.expression.specs.Expression.{bit_in};
 ghost use Rattle.trial.specs.Trial.{alarmed_of, to_end};
 
-
 // The weight of an alarm's bit if the reference reads as on, else nothing.
 fn weigh(bits: &[bool; 234], r: u32, weight: u64) -> u64
     requires { r < 234 }
@@ -25,17 +24,12 @@ fn references(s: &[u8], start: usize, n: u32, bits: &[bool; 234], marks: &[u8; 2
     let mut weight: u64 = 1;
     let mut at = start;
     for _ in 0..n {
-        let r = numbers::read_number(s, at, numbers::PIN, 0, marks);
-        match r {
-            Err(_) => {
-                return None;
-            }
-            Ok((v, next)) => {
-                word += weigh(bits, v, weight);
-                weight *= 2;
-                at = next;
-            }
-        }
+        let Ok((v, next)) = numbers::read_number(s, at, numbers::PIN, 0, marks) else {
+            return None;
+        };
+        word += weigh(bits, v, weight);
+        weight *= 2;
+        at = next;
     }
     if at < s.len() {
         return None;
@@ -47,9 +41,8 @@ fn references(s: &[u8], start: usize, n: u32, bits: &[bool; 234], marks: &[u8; 2
 pub fn alarms(s: &[u8], at: usize, bits: &[bool; 234], marks: &[u8; 200]) -> Option<u32>
     ensures { result ≡ alarmed_of bits.now (alarms_at marks.now s.now at) }
 {
-    let c = numbers::read_number(s, at, numbers::ALARM_COUNT, 0, marks);
-    match c {
-        Err(_) => None,
-        Ok((n, next)) => references(s, next, n, bits, marks),
-    }
+    let Ok((n, next)) = numbers::read_number(s, at, numbers::ALARM_COUNT, 0, marks) else {
+        return None;
+    };
+    references(s, next, n, bits, marks)
 }

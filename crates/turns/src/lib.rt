@@ -6,7 +6,6 @@ ghost use Rattle.program.specs.Program.{blocks_at};
 ghost use Rattle.program.specs.Trial.{all_answer};
 ghost use Rattle.turns.specs.Arrays.{arrays_before, arrays_after, ran_of, turned_while};
 
-use block::End;
 use place::Place;
 
 // Whether each of the first n blocks that is asked for its word has one.
@@ -62,25 +61,19 @@ pub fn turns(
             ticks: ticks[i],
             word: w,
         };
-        let t = running::turn(s, at, p, bits, words, elapsed, marks, &mut asked);
-        let end = t.end;
-        match end {
-            End::Fault(_, _) => {
-                return None;
-            }
-            End::Next(next) => {
-                let q = t.place;
-                let a = q.word;
-                bits[i + 34] = q.out;
-                words[i + 8] = a;
-                ticks[i] = q.ticks;
-                pins[i] = q.pins;
-                own[i] = t.mark;
-                steps += t.steps;
-                memory += t.memory;
-                at = next;
-            }
-        }
+        let Ok(t) = running::turn(s, at, p, bits, words, elapsed, marks, &mut asked) else {
+            return None;
+        };
+        let q = t.place;
+        let a = q.word;
+        bits[i + 34] = q.out;
+        words[i + 8] = a;
+        ticks[i] = q.ticks;
+        pins[i] = q.pins;
+        own[i] = t.mark;
+        steps += t.steps;
+        memory += t.memory;
+        at = t.next;
     }
     let light = memory <= kinds::MEMORY_LIMIT;
     if all_answer(n, &asked, &own) && light {

@@ -41,6 +41,6 @@ returns c =
     let o = sym c.run.ensures.value ∙ c.in-Some.is in
     let r = ran _ _ _ o in
     let a = told _ _ _ r o in record {
-      value = rw (c.close-rises.ensures.value, a) (sym (by_answer _ _ _ good on_time r));
-      after = rw (c.close-rises.ensures.after, c.run.ensures.after, a) (image_after_lem _ _ _ good on_time r c.columns_sized.ensures);
+      value = rw (c.close-rises.ensures.value, c.from.ensures, a) (sym (by_answer _ _ _ good on_time r));
+      after = rw (c.close-rises.ensures.after, c.from.ensures, c.run.ensures.after, a) (image_after_lem _ _ _ good on_time r c.columns_sized.ensures);
     }

@@ -9,11 +9,12 @@ returns-then-not-good c =
     let g = no_take _ (sym c.good.ensures ∙ c.if-not-good.true) in
     record { value = c.refuse_take.ensures ∙ g.0; after = g.1 }
 
-pub hand_out-o-requires : goal.hand_out-o-requires
-hand_out-o-requires c =
+pub hand_out-oldest-requires : goal.hand_out-oldest-requires
+hand_out-oldest-requires c =
     few _ (good_parts _ (sym c.good.ensures ∙ c.if-not-good.false))
 
 pub returns : goal.returns
 returns c =
     let good = good_parts _ (sym c.good.ensures ∙ c.if-not-good.false) in
-    let out = c.hand_out-o.ensures in record { value = rw out.value (sym (by_take _ good)); after = rw out.after (image_taken _ good c.columns_sized.ensures) }
+    let out = c.hand_out-oldest.ensures in
+    record { value = rw (c.is_some.ensures, c.unwrap_or.ensures, c.zero.ensures, out.value) (sym (by_take _ good)); after = rw out.after (image_taken _ good c.columns_sized.ensures) }

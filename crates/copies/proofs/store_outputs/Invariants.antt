@@ -1,14 +1,10 @@
 -- `copies::store_outputs` meets its contract: each turn makes the new front longer by one, and what stands behind it stays.
 use Rattle.copies.specs.Copies.{over}
 use Rattle.terms.specs.Bits.{digit}
-use lib.ListN.{length, drop}
-use Prim.Native.Nat.{◌-◌, ◌≤◌}
+use lib.ListN.{drop}
 use mathlib.Core.List.{map}
 use mathlib.Core.Path.{◌≡◌}
 use Rattle.copies.proofs.store_outputs.Given as goal
 
 abbrev pub invariant-loop-i : goal.invariant-loop-i
-invariant-loop-i l = (l.i ≤ l.n) × ((length l.initial.to ≡ 200) × ((l.to ≡ over l.i (map digit (drop 34 l.bits)) l.initial.to) × (length l.bits ≡ 234)))
-
-abbrev pub decreases-loop-i : goal.decreases-loop-i
-decreases-loop-i l = l.n - l.i
+invariant-loop-i l = l.to ≡ over l.i (map digit (drop 34 l.bits)) l.initial.to

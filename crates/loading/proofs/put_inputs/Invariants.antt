@@ -1,13 +1,9 @@
 -- `loading::put_inputs` meets its contract: behind off and on, each turn makes the new front longer by one input bit.
 use Rattle.copies.specs.Copies.{over}
 use Rattle.loading.specs.Inputs.{input_bits}
-use lib.ListN.{length}
-use Prim.Native.Nat.{◌+◌, ◌-◌, ◌≤◌}
+use Prim.Native.Nat.{◌+◌}
 use mathlib.Core.Path.{◌≡◌}
 use Rattle.loading.proofs.put_inputs.Given as goal
 
 abbrev pub invariant-loop-i : goal.invariant-loop-i
-invariant-loop-i l = (l.i ≤ 32) × ((l.to ≡ over (l.i + 2) (input_bits l.bits) l.initial.to) × ((length l.to ≡ 234) × (length l.initial.to ≡ 234)))
-
-abbrev pub decreases-loop-i : goal.decreases-loop-i
-decreases-loop-i l = 32 - l.i
+invariant-loop-i l = l.to ≡ over (l.i + 2) (input_bits l.bits) l.initial.to

@@ -12,13 +12,13 @@ run_counted-requires c =
     let e = sym c.in-Ok.ensures in
     omega (arith, typed_below _ _ _ _ _ e)
 
-pub returns-in-Err : goal.returns-in-Err
-returns-in-Err c =
-    let n = no_count _ _ _ (sym c.in-Err.ensures) in
+pub returns-in_default : goal.returns-in_default
+returns-in_default c =
+    let n = no_count _ _ _ (sym c.in_default.ensures) in
     record { value = n.answer; after = n.columns }
 
-pub returns-in-Ok : goal.returns-in-Ok
-returns-in-Ok c =
+pub returns : goal.returns
+returns c =
     let sized = c.columns_sized.ensures in let e = sym c.in-Ok.ensures in
     let eight : length c.args.analogs ≡ 8 = search rules in
     let r = counted _ _ _ eight sized e in

@@ -25,35 +25,31 @@ pub loop-i-init : goal.loop-i-init
 loop-i-init c =
     begin _ _ _ _ _ _
 
-pub returns-in-Fault : goal.returns-in-Fault
-returns-in-Fault c =
+pub returns-in_default : goal.returns-in_default
+returns-in_default c =
     let l = c.loop-i in let f : SFits w16 (get_or l.words (l.i + 8) (pos 0)) = search rules in
-    let h = stop _ _ _ _ _ _ l.invariant (omega arith) _ (word_kept (arrays l.bits l.words l.ticks l.pins) l.i f)
-    c.turn-t.ensures.value c.in-Fault.is in
+    let h = stop _ _ _ _ _ _ l.invariant (omega arith) (word_kept (arrays l.bits l.words l.ticks l.pins) l.i f) c.in_default.ensures.value in
     record { value = h.0; after = h.1 }
 
 pub overflow_add-steps : goal.overflow_add-steps
 overflow_add-steps c =
     let l = c.loop-i in let f : SFits w16 (get_or l.words (l.i + 8) (pos 0)) = search rules in
     let w = word_kept (arrays l.bits l.words l.ticks l.pins) l.i f in
-    let m = small _ _ _ _ _ _ l.invariant (omega arith) _ w c.turn-t.ensures.value c.in-Next.is in
-    omega (arith, l.invariant.few, m)
+    omega (arith, l.invariant.few, small _ _ _ _ _ _ l.invariant (omega arith) w c.in-Ok.ensures.value)
 
 pub overflow_add-memory : goal.overflow_add-memory
 overflow_add-memory c =
     let l = c.loop-i in let f : SFits w16 (get_or l.words (l.i + 8) (pos 0)) = search rules in
     let w = word_kept (arrays l.bits l.words l.ticks l.pins) l.i f in
-    let m = small _ _ _ _ _ _ l.invariant (omega arith) _ w c.turn-t.ensures.value c.in-Next.is in
-    omega (arith, l.invariant.light, m)
+    omega (arith, l.invariant.light, small _ _ _ _ _ _ l.invariant (omega arith) w c.in-Ok.ensures.value)
 
 pub loop-i-preserved : goal.loop-i-preserved
 loop-i-preserved c =
     let l = c.loop-i in let f : SFits w16 (get_or l.words (l.i + 8) (pos 0)) = search rules in
-    let w : SFits w16 c.turn-t.result.place.word = search rules in
+    let w : SFits w16 c.in-Ok.t.place.word = search rules in
     rw (to_z-of_z w)
-    (go_on _ _ _ _ _ _ l.invariant (omega arith) _ (word_kept (arrays l.bits l.words l.ticks l.pins) l.i f)
-    c.turn-t.ensures.value (omega arith)
-    c.in-Next.is c.turn-t.ensures.asks)
+    (go_on _ _ _ _ _ _ l.invariant (omega arith) (word_kept (arrays l.bits l.words l.ticks l.pins) l.i f) (omega arith)
+    c.in-Ok.ensures.value c.in-Ok.ensures.asks)
 
 pub returns-then-light : goal.returns-then-light
 returns-then-light c =

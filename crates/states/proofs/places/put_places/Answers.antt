@@ -1,40 +1,23 @@
-use native.Mathlib.Omega.{arith}
+-- `states::places::put_places` meets its contract: the columns are made of the places.
+use mathlib.Core.Path.{◌≡◌, ◌∙◌}
 use borrow.Author.Rules.{rules}
-use lib.ListN.{get_or, length-set}
-use mir.Facts.{to_z-of_z}
-use mir.Val.{SFits}
-use mir.Syntax.{w16}
-use Rattle.terms.proofs.Bits.{as_byte}
+use lib.ListN.{length, get_or}
+use mir.Val.{bool_byte}
 use Rattle.place.specs.Places.{fresh_place}
-use Rattle.image.proofs.Walks.{map_turn, map_end}
+use Rattle.journal.proofs.Places.{length_mapped}
+use Rattle.terms.proofs.Bits.{as_byte}
 use Rattle.image.specs.Image.{pins_of, output_of, ticks_of, word_of_place}
+use Rattle.image.proofs.Made.{map_made}
 use Rattle.states.proofs.places.put_places.Goals as goal
-
-pub loop-i-preserved : goal.loop-i-preserved
-loop-i-preserved c =
-    let ps = c.args.ps in let i = c.loop-i.i in let f : SFits w16 (get_or ps i fresh_place).word = search rules in
-    let long = c.loop-i.invariant.1.0 in let front = c.loop-i.invariant.1.1 in (
-      omega arith,
-      (
-        ((simp length-set long.0.0, simp length-set long.0.1), (simp length-set long.1.0, simp length-set long.1.1)),
-        (
-          (
-            map_turn ticks_of ps fresh_place c.loop-i.t i (omega arith) (omega arith) front.0.0,
-            rw (to_z-of_z f) (map_turn word_of_place ps fresh_place c.loop-i.w i (omega arith) (omega arith) front.0.1),
-          ),
-          (
-            map_turn pins_of ps fresh_place c.loop-i.q i (omega arith) (omega arith) front.1.0,
-            rw (as_byte (get_or ps i fresh_place).out) (map_turn output_of ps fresh_place c.loop-i.o i (omega arith) (omega arith) front.1.1),
-          ),
-        ),
-      ),
-    )
 
 pub returns : goal.returns
 returns c =
-    let ps = c.args.ps in let i = c.loop-i.i in let front = c.loop-i.invariant.1.1 in rw (
-      map_end ticks_of ps c.loop-i.t i (omega arith) (omega arith) front.0.0,
-      map_end word_of_place ps c.loop-i.w i (omega arith) (omega arith) front.0.1,
-      map_end pins_of ps c.loop-i.q i (omega arith) (omega arith) front.1.0,
-      map_end output_of ps c.loop-i.o i (omega arith) (omega arith) front.1.1,
+    let ps = c.args.ps in let n : length ps ≡ 200 = search (rules, length_mapped) in
+    let t = c.map.ensures.items in let w = c.map-2.ensures.items in
+    let q = c.map-3.ensures.items in let o = c.map-4.ensures.items in
+    rw (
+      map_made 200 ps c.map.result ticks_of fresh_place n t.long (λ i d h. let m = t.at i fresh_place d h in search rules),
+      map_made 200 ps c.map-2.result word_of_place fresh_place n w.long (λ i d h. let m = w.at i fresh_place d h in search rules),
+      map_made 200 ps c.map-3.result pins_of fresh_place n q.long (λ i d h. let m = q.at i fresh_place d h in search rules),
+      map_made 200 ps c.map-4.result output_of fresh_place n o.long (λ i d h. let m = o.at i fresh_place d h in let e : get_or c.map-4.result i d ≡ bool_byte (get_or ps i fresh_place).out = search rules in e ∙ as_byte _),
     )

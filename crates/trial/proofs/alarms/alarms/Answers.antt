@@ -9,10 +9,10 @@ pub references-requires : goal.references-requires
 references-requires c =
     omega (arith, typed_below _ _ _ _ _ (sym c.in-Ok.ensures))
 
-pub returns-in-Err : goal.returns-in-Err
-returns-in-Err c =
-    uncounted _ _ _ _ (sym c.in-Err.ensures)
+pub returns-in_default : goal.returns-in_default
+returns-in_default c =
+    uncounted _ _ _ _ (sym c.in_default.ensures)
 
-pub returns-in-Ok : goal.returns-in-Ok
-returns-in-Ok c =
+pub returns : goal.returns
+returns c =
     c.references.ensures ∙ counted _ _ _ _ (sym c.in-Ok.ensures)

@@ -11,10 +11,10 @@ pub loop-init : goal.loop-init
 loop-init c =
     let e : c.args.n - 0 ≡ c.args.n = omega arith in rw e (walk_begin _ _ _ _ _)
 
-pub returns-in-Err : goal.returns-in-Err
-returns-in-Err c =
+pub returns-in_default : goal.returns-in_default
+returns-in_default c =
     walk_fault _ _ _ _ _ c.loop.invariant (omega arith)
-    (sym c.in-Err.ensures)
+    (sym c.in_default.ensures)
 
 pub weigh-word-requires : goal.weigh-word-requires
 weigh-word-requires c =
