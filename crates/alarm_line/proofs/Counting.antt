@@ -8,6 +8,8 @@ use native.Mathlib.Omega.{arith}
 use lib.Dec.{ltb}
 use lib.ListN.{length}
 use borrow.Author.Tests.{lt-ltb, le-ltb, not-true, not-false}
+use Rattle.std.specs.Prelude.{Option, None, Some}
+use Rattle.terms.proofs.Choice.{pairs}
 use Rattle.terms.specs.Choice.{pick}
 use Rattle.spelling.specs.Spelling.{after_spaces}
 use Rattle.spelling.proofs.Spaces.{skipped_within}
@@ -20,9 +22,9 @@ use Rattle.layout.specs.Alarms.{names_from, alarms_from}
 use Rattle.layout.proofs.Fielding.{stands_within}
 use Rattle.alarm_line.specs.declared.Alarm.{Alarm}
 use Rattle.alarm_line.specs.declared.Alarm.TheVariants.{Bit, End, NoAlarm}
-use Rattle.alarm_line.specs.declared.Count.{Count}
-use Rattle.alarm_line.specs.declared.Count.TheVariants.{Names, NoCount}
-use Rattle.alarm_line.specs.Naming.{alarm_at, counted, names_place, counted_in}
+use Rattle.alarm_line.specs.Naming.{Count}
+use Rattle.alarm_line.specs.Naming.{Names, NoCount}
+use Rattle.alarm_line.specs.Naming.{alarm_at, counted, as_count, names_place, counted_in}
 use Rattle.alarm_line.proofs.Naming.{onward, names_by, alarm_within}
 
 -- n names behind a place are counted, and these are found
@@ -109,3 +111,12 @@ module _ (s : List ℕ) where
 
     pub uncountable : suc most_named ≤ n → NoCount ≡ counted_in s
     uncountable h = sym (too_many at n (names_from (suc (length s) - n) s p) h) ∙ g.same
+
+-- what the code answers, once it is known which it is
+pub count_had : (x : Count) {n at : ℕ} → Some (n, at) ≡ as_count x → x ≡ Names n at
+count_had (Names m k) {n} {at} e = let p : ◌≡◌ {A = ℕ × ℕ} (n, at) (m, k) = cc in let q = pairs p in cc
+count_had NoCount e = let z : ◌≡◌ {A = ℕ} 0 1 = cc in absurd (omega arith)
+
+pub count_none : (x : Count) → None ≡ as_count x → x ≡ NoCount
+count_none (Names m k) e = let z : ◌≡◌ {A = ℕ} 0 1 = cc in absurd (omega arith)
+count_none NoCount e = refl

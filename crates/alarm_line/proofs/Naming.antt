@@ -10,8 +10,8 @@ use borrow.Author.Tests.{ltb-true}
 use Rattle.terms.specs.Choice.{pick}
 use Rattle.terms.proofs.Choice.{pick_case}
 use Rattle.numbers.specs.Types.{bit_ref}
-use Rattle.spelling.specs.declared.Named.{Named}
-use Rattle.spelling.specs.declared.Named.TheVariants.{Bit as BitName, NoName}
+use Rattle.spelling.specs.Spelling.{Named}
+use Rattle.spelling.specs.Spelling.{Bit as BitName, NoName}
 use Rattle.spelling.specs.Spelling.{after_spaces, name_at}
 use Rattle.spelling.proofs.Spaces.{skipped_within}
 use Rattle.shown.specs.Show.{name_of}

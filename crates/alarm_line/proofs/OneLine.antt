@@ -4,6 +4,7 @@ use mathlib.Core.Path.{◌≡◌, refl, sym, ap, ◌∙◌}
 use mathlib.Core.List.{List, [], ◌∷◌, map}
 use native.Mathlib.Omega.{arith}
 use lib.ListN.{length}
+use Rattle.std.specs.Prelude.{Option, None, Some}
 use Rattle.numbers.specs.Blocks.{Bit, bit_code}
 use Rattle.numbers.specs.Types.{bit_ref}
 use Rattle.writing.specs.Expressions.{InRange}
@@ -11,8 +12,6 @@ use Rattle.writing.proofs.Back.{ref_back}
 use Rattle.forms.specs.Written.{Each}
 use Rattle.layout.specs.Layout.{Names, no_names, one_name, AlarmsLine, alarms_line}
 use Rattle.layout.proofs.Alarming.{alarms_read}
-use Rattle.alarm_line.specs.declared.Alarms.{Alarms}
-use Rattle.alarm_line.specs.declared.Alarms.TheVariants.{Got}
 use Rattle.alarm_line.specs.Taking.{TakesAlarms, alarms_taken, not_taken}
 
 names_in_range : {rs : List Bit} {w : List ℕ} → Names rs w → Each InRange rs
@@ -36,11 +35,11 @@ one_list {s} {rs} {qs} x y =
     sym (references_back rs (alarms_in_range x)) ∙ ap (map bit_ref) g ∙ references_back qs (alarms_in_range y)
 
 pub one_taking :
-    {s l : List ℕ} {to : ℕ} {m n : List ℕ} {q r : Alarms} → TakesAlarms s l to m q → TakesAlarms s l to n r → (m ≡ n) × (q ≡ r)
+    {s l : List ℕ} {to : ℕ} {m n : List ℕ} {q r : Option ℕ} → TakesAlarms s l to m q → TakesAlarms s l to n r → (m ≡ n) × (q ≡ r)
 one_taking (alarms_taken rs i x p) (alarms_taken qs j y o) =
     let e = one_list x y in
     let f = rw e at p in
-    (f.bytes ∙ sym o.bytes, ap Got (f.place ∙ sym o.place))
+    (f.bytes ∙ sym o.bytes, ap Some (f.place ∙ sym o.place))
 one_taking (alarms_taken rs i x p) (not_taken f e) = absurd (f rs x)
 one_taking (not_taken f e) (alarms_taken rs i x p) = absurd (f rs x)
 one_taking (not_taken f e) (not_taken g h) = (e ∙ sym h, refl)

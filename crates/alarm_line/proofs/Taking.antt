@@ -6,6 +6,7 @@ use native.Mathlib.Omega.{arith}
 use lib.Dec.{ltb}
 use lib.ListN.{length, length-map}
 use borrow.Author.Tests.{lt-ltb, le-leb, lt-leb, ltb-true}
+use Rattle.std.specs.Prelude.{Option, None, Some}
 use Rattle.terms.proofs.Choice.{pick_case}
 use Rattle.wire.specs.Number.{groups_of}
 use Rattle.numbers.specs.Blocks.{Bit, bit_code}
@@ -22,9 +23,8 @@ use Rattle.layout.specs.Layout.{most_named, AlarmsLine}
 use Rattle.layout.specs.Fields.{Found, found, lost}
 use Rattle.layout.specs.Alarms.{names_from, alarms_from}
 use Rattle.layout.proofs.Alarming.{alarms_told, alarms_read}
-use Rattle.alarm_line.specs.declared.Count.{Count}
-use Rattle.alarm_line.specs.declared.Count.TheVariants.{Names, NoCount}
-use Rattle.alarm_line.specs.declared.Alarms.TheVariants.{Got, Bad}
+use Rattle.alarm_line.specs.Naming.{Count}
+use Rattle.alarm_line.specs.Naming.{Names, NoCount}
 use Rattle.alarm_line.specs.Naming.{counted, names_place, counted_in, first_names}
 use Rattle.alarm_line.specs.Taking.{TakesAlarms, alarms_taken, not_taken}
 use Rattle.alarm_line.proofs.Naming.{first_all}
@@ -61,7 +61,7 @@ module _ (s : List ℕ) where
       let f = rw (r.0, length-map rs bit_code, lt-ltb (length rs) (suc most_named) r.1) at e in
       let z : ◌≡◌ {A = ℕ} 0 1 = cc in omega arith
 
-  pub no_count : {l : List ℕ} {to : ℕ} → counted_in s ≡ NoCount → TakesAlarms s l to l Bad
+  pub no_count : {l : List ℕ} {to : ℕ} → counted_in s ≡ NoCount → TakesAlarms s l to l None
   no_count e = not_taken (uncounted e) refl
 
   -- so many alarms, and the numbers of their references, from a place on
@@ -97,13 +97,13 @@ module _ (s : List ℕ) where
     front_size = length-map g.numbers bit_ref ∙ g.size
 
     -- of more than a program may have only the count is put
-    pub count_put : {l m : List ℕ} {to p : ℕ} → most_alarms < n → Put (groups_of 3 n) l to m p → TakesAlarms s l to m (Got p)
+    pub count_put : {l m : List ℕ} {to p : ℕ} → most_alarms < n → Put (groups_of 3 n) l to m p → TakesAlarms s l to m (Some p)
     count_put {p = p} h x =
         alarms_taken (map bit_ref g.numbers) p g.line (rw (front_size, lt-leb n most_alarms h, append-nil (groups_of 3 n)) x)
 
     pub names_put :
         {l k m : List ℕ} {to p q : ℕ} → n ≤ most_alarms → Put (groups_of 3 n) l to k p → Put (bytes_of (first_names n s at)) k p m q →
-        TakesAlarms s l to m (Got q)
+        TakesAlarms s l to m (Some q)
     names_put {q = q} h x y =
         alarms_taken (map bit_ref g.numbers) q g.line
         (rw (front_size, le-leb n most_alarms h, codes_back g.numbers) (put_then x (rw g.first at y)))

@@ -1,8 +1,8 @@
 -- Request L4, import: the names of an alarms' line one by one, and how many there are (ours; Layout says what is good).
-use Rattle.std.specs.Prelude.{ℕ, zero, suc, ◌+◌, List, [], ◌∷◌, length, ltb, leb}
+use Rattle.std.specs.Prelude.{ℕ, zero, suc, ◌+◌, List, [], ◌∷◌, length, ltb, leb, Option, None, Some}
 use Rattle.terms.specs.Choice.{pick}
-use Rattle.spelling.specs.declared.Named.{Named}
-use Rattle.spelling.specs.declared.Named.TheVariants.{Bit as BitName, NoName}
+use Rattle.spelling.specs.Spelling.{Named}
+use Rattle.spelling.specs.Spelling.{Bit as BitName, NoName}
 use Rattle.spelling.specs.Spelling.{after_spaces, name_at}
 use Rattle.words.specs.Words.{alarms, word_text}
 use Rattle.layout.specs.Layout.{most_named}
@@ -10,8 +10,6 @@ use Rattle.layout.specs.Fields.{Found, found, lost}
 use Rattle.layout.specs.Alarms.{alarms_from}
 use Rattle.alarm_line.specs.declared.Alarm.{Alarm}
 use Rattle.alarm_line.specs.declared.Alarm.TheVariants.{Bit, End, NoAlarm}
-use Rattle.alarm_line.specs.declared.Count.{Count}
-use Rattle.alarm_line.specs.declared.Count.TheVariants.{Names, NoCount}
 
 abbrev pub alarm_of : Named → Alarm
 alarm_of (BitName r next) = Bit r next
@@ -22,6 +20,15 @@ unfoldable pub alarm_at : List ℕ → ℕ → Alarm
 alarm_at s at =
     pick (leb (length s) (after_spaces s at)) End
     (pick (ltb at (after_spaces s at)) (alarm_of (name_at s (after_spaces s at))) NoAlarm)
+
+-- a count of names and the place behind the word before them, or none; and how the code answers it
+pub data Count : Type 0 where
+  Names : ℕ → ℕ → Count
+  NoCount : Count
+
+abbrev pub as_count : Count → Option (ℕ × ℕ)
+as_count (Names n at) = Some (n, at)
+as_count NoCount = None
 
 -- how many names were found behind a place, if a number of a program can count them
 abbrev pub counted : ℕ → Found → Count

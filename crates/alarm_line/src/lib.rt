@@ -4,10 +4,8 @@
 ghost use Rattle.std.specs.Prelude.{◌≡◌, ◌+◌, ◌*◌, ◌<◌, ◌^◌};
 ghost use Rattle.filling.specs.Filling.{Put};
 ghost use Rattle.writing.specs.Expressions.{bytes_of};
-ghost use Rattle.alarm_line.specs.Naming.{alarm_at, counted_in, first_names};
+ghost use Rattle.alarm_line.specs.Naming.{alarm_at, counted_in, as_count, first_names};
 ghost use Rattle.alarm_line.specs.Taking.{TakesAlarms};
-
-use spelling::Named;
 
 // One more than a number of a program can count.
 const TOO_MANY: u32 = 2097152;
@@ -16,6 +14,7 @@ const TOO_MANY: u32 = 2097152;
 const MOST_ALARMS: u32 = 32;
 
 // An alarm: the bit reference and the place behind its name. Or the end of the line, or neither.
+// Kept: no plainer, three answers, of which an Option in an Option names none.
 #[derive(Drop)]
 enum Alarm {
     Bit(u32, usize),
@@ -35,38 +34,29 @@ fn read_alarm(line: &[u8], at: usize) -> Alarm
         return Alarm::NoAlarm;
     }
     match spelling::read_name(line, p) {
-        Named::Bit(r, next) => Alarm::Bit(r, next),
-        Named::NoName(_) => Alarm::NoAlarm,
+        Ok((r, next)) => Alarm::Bit(r, next),
+        Err(_) => Alarm::NoAlarm,
     }
 }
 
 // How many names a line of alarms has, and the place behind the word before them. Or it is no such line, or has too many.
-#[derive(Drop)]
-enum Count {
-    Names(u32, usize),
-    NoCount,
-}
-
-// Counts the names of a line.
-fn count_names(line: &[u8]) -> Count
-    ensures { result ≡ counted_in line.now }
+fn count_names(line: &[u8]) -> Option<(u32, usize)>
+    ensures { result ≡ as_count (counted_in line.now) }
 {
     let word = spelling::skip_spaces(line, 0);
     if !words::word_at(line, word, words::ALARMS) {
-        return Count::NoCount;
+        return None;
     }
     let at = word + words::word_size(words::ALARMS);
     let mut p = at;
-    let mut n: u32 = 0;
-    while n < TOO_MANY {
+    for n in 0..TOO_MANY {
         match read_alarm(line, p) {
             Alarm::Bit(_, next) => p = next,
-            Alarm::End => return Count::Names(n, at),
-            Alarm::NoAlarm => return Count::NoCount,
+            Alarm::End => return Some((n, at)),
+            Alarm::NoAlarm => return None,
         }
-        n += 1;
     }
-    Count::NoCount
+    None
 }
 
 // Puts the references of the first so many names from a place on, and answers the place after them.
@@ -76,38 +66,26 @@ fn put_names(line: &[u8], at: usize, count: u32, out: &mut [u8], to: usize) -> u
 {
     let mut p = at;
     let mut q = to;
-    let mut left = count;
-    while 0 < left {
+    for _i in 0..count {
         let Alarm::Bit(r, next) = read_alarm(line, p) else {
             return q;
         };
         q = storing::put_number(out, q, r);
         p = next;
-        left -= 1;
     }
     q
 }
 
-// The place after the bytes that were put. Or it is no line of alarms.
-#[derive(Drop)]
-pub enum Alarms {
-    Got(usize),
-    Bad,
-}
-
-// Puts the alarms of a line: their count and, if a program may have so many, their references. A bad line leaves the buffer as it was.
-pub fn take_alarms(line: &[u8], out: &mut [u8], to: usize) -> Alarms
+// Puts the alarms of a line, their count and, if a program may have so many, their references, and answers the place after them.
+// A bad line leaves the buffer as it was.
+pub fn take_alarms(line: &[u8], out: &mut [u8], to: usize) -> Option<usize>
     requires { to + 200 < 2 ^ 64 }
     ensures { TakesAlarms line.now out.old to out.new result }
 {
-    match count_names(line) {
-        Count::Names(n, at) => {
-            let p = storing::put_number(out, to, n);
-            if MOST_ALARMS < n {
-                return Alarms::Got(p);
-            }
-            Alarms::Got(put_names(line, at, n, out, p))
-        }
-        Count::NoCount => Alarms::Bad,
+    let (n, at) = count_names(line)?;
+    let p = storing::put_number(out, to, n);
+    if MOST_ALARMS < n {
+        return Some(p);
     }
+    Some(put_names(line, at, n, out, p))
 }

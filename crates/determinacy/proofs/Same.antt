@@ -4,10 +4,11 @@ use mathlib.Core.Path.{◌≡◌, sym, ap, ◌∙◌}
 use mathlib.Core.List.{List}
 use native.Mathlib.Omega.{arith}
 use Rattle.std.specs.Prelude.{Result, Ok, Err, Option, Some, None}
+use Rattle.numbers.specs.Blocks.{Expr}
 use Rattle.grammar.proofs.Builds.{one_reading}
 use Rattle.grammar.proofs.Places.{one_place}
-use Rattle.parsing.specs.declared.Listed.{Listed}
-use Rattle.parsing.specs.Listing.{listed_tree, listed_bad, Lists, lists, lists_none}
+use Rattle.parsing.specs.declared.Tree.{Tree}
+use Rattle.parsing.specs.Listing.{listed_tree, Lists, lists, lists_none}
 use Rattle.typed.proofs.Answering.{one_answer}
 use Rattle.lanwezik.specs.declared.Expression.{Expression}
 use Rattle.lanwezik.specs.Answers.{expression, Formulas, formulas}
@@ -54,11 +55,11 @@ went_same (reads n e h) (ends f k) = absurd (omega (arith, rows e f))
 went_same (reads n e h) (reads o f k) = let same : o ≡ n = omega (arith, rows e f) in kept_same h (rw same at k)
 
 -- the rows of a text exclude one another too
-pub listed_same : (s : List ℕ) {q r : Listed} → Lists s q → Lists s r → q ≡ r
-listed_same s (lists t x) (lists u y) = ap listed_tree (one_reading s t u x y)
+pub listed_same : (s : List ℕ) {q r : Result Tree ℕ} → Lists s q → Lists s r → q ≡ r
+listed_same s (lists t x) (lists u y) = ap (λ (t : Expr). Ok (listed_tree t)) (one_reading s t u x y)
 listed_same s (lists t x) (lists_none k y) = absurd (y.no_reading t x)
 listed_same s (lists_none k x) (lists u y) = absurd (x.no_reading u y)
-listed_same s (lists_none j x) (lists_none k y) = ap listed_bad (one_place s j k x y)
+listed_same s (lists_none j x) (lists_none k y) = ap Err (one_place s j k x y)
 
 pub formulas_same : (s : List ℕ) {q r : Expression} → Formulas s q → Formulas s r → q ≡ r
 formulas_same s (formulas a x) (formulas b y) = ap expression (one_answer s a b x y)

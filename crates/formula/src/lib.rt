@@ -5,9 +5,9 @@ ghost use Rattle.std.specs.Prelude.{◌≡◌};
 ghost use Rattle.formula.specs.Answers.{Answers, refused};
 
 use nodelist::PLACES;
-use parsing::Reading;
 
 // Number of refusal and place, and the node numbers of an expression, operator first: so many, and zeros behind them.
+// Kept: what may not change, the theorem Typed (typed/specs/Typed) and the C struct of lanwezik_formula speak of each of these fields.
 #[derive(Drop)]
 pub struct Expression {
     pub refusal: u8,
@@ -32,23 +32,20 @@ fn refuse(n: u8, at: usize) -> Expression
 pub fn read_formula(text: &[u8]) -> Expression
     ensures { Answers text.now result }
 {
-    let listed = parsing::list_nodes(text);
-    let reading = listed.reading;
-    match reading {
-        Reading::Bad(k) => refuse(terms::BAD_TEXT, k),
-        Reading::Tree { count, deep } => {
-            if (nodes::MOST_NODES as usize) < count {
+    match parsing::list_nodes(text) {
+        Err(k) => refuse(terms::BAD_TEXT, k),
+        Ok(tree) => {
+            if (nodes::MOST_NODES as usize) < tree.count
+                || (nodes::MOST_DEEP as usize) < tree.deep
+            {
                 return refuse(terms::OUTSIDE, 0);
             }
-            if (nodes::MOST_DEEP as usize) < deep {
-                return refuse(terms::OUTSIDE, 0);
-            }
-            let list = listed.nodes;
+            let nodes = tree.nodes;
             Expression {
                 refusal: 0,
                 place: 0,
-                count: count as u8,
-                nodes: list,
+                count: tree.count as u8,
+                nodes,
             }
         }
     }

@@ -7,6 +7,7 @@ use native.Mathlib.Numerals.{add-one}
 use native.Mathlib.Omega.{arith}
 use lib.ListN.{length, take, drop}
 use lib.Seq.{length-sets}
+use Rattle.std.specs.Prelude.{Option, None, Some, Ok, Err}
 use Rattle.wire.specs.Number.{groups_of}
 use Rattle.numbers.specs.Blocks.{Bit, Block}
 use Rattle.filling.specs.Filling.{Put}
@@ -18,16 +19,11 @@ use Rattle.layout.specs.Ends.{Split, Open}
 use Rattle.layout.proofs.Going.{Going, start, one_more}
 use Rattle.layout.proofs.Outcomes.{bad_open, bad_line, bad_more, listing}
 use Rattle.splitting.specs.declared.Line.{Line}
-use Rattle.splitting.specs.declared.Line.TheVariants.{Whole, Unended}
 use Rattle.splitting.specs.Splitting.{Splits, splits, unended}
 use Rattle.splitting.proofs.OneSplit.{line_part}
 use Rattle.taking.specs.declared.Taken.{Taken}
-use Rattle.taking.specs.declared.Taken.TheVariants.{Block as BlockTaken, Bad as NotTaken}
 use Rattle.taking.specs.Taking.{Takes, taken, not_taken, TakesLine}
-use Rattle.alarm_line.specs.declared.Alarms.{Alarms}
-use Rattle.alarm_line.specs.declared.Alarms.TheVariants.{Got, Bad as NoAlarms}
 use Rattle.alarm_line.specs.Taking.{TakesAlarms, alarms_taken, not_taken as alarms-not-taken}
-use Rattle.gathering.specs.declared.Gathered.TheVariants.{Program as ProgramAt, Bad}
 use Rattle.gathering.specs.Gathering.{room_size, Gathers, gathers, no_listing, Counts}
 use Rattle.gathering.proofs.Spelt.{block_spelt}
 use Rattle.gathering.proofs.Stored.{Stored, none_stored, stored_more, stored_no_more, Ready, ready, ready_before, counted}
@@ -37,16 +33,11 @@ pub number_small : {i : ℕ} {w : List ℕ} {b : Block} → BlockLine i w b → 
 number_small (block_line m n h l x) = h
 
 -- what the calls of a turn tell
-pub whole_line : {s : List ℕ} {at : ℕ} {r : Line} {last next : ℕ} → Splits s at r → r ≡ Whole last next → Split s at last next
-whole_line {s} {at} {last = last} {next = next} (splits l n x) e =
-    let a : l ≡ last = cc in
-    let b : n ≡ next = cc in
-    rw (← a, ← b) x
-whole_line (unended o) e = let z : ◌≡◌ {A = ℕ} 0 1 = cc in absurd (omega arith)
+pub whole_line : {s : List ℕ} {at : ℕ} {r : Line} → Splits s at (Some r) → Split s at r.last r.next
+whole_line (splits l n x) = x
 
-pub open_line : {s : List ℕ} {at : ℕ} {r : Line} → Splits s at r → r ≡ Unended → Open s at
-open_line (splits l n x) e = let z : ◌≡◌ {A = ℕ} 0 1 = cc in absurd (omega arith)
-open_line (unended o) e = o
+pub open_line : {s : List ℕ} {at : ℕ} → Splits s at None → Open s at
+open_line (unended o) = o
 
 record Took (Says : Block → Type 0) (l : List ℕ) (to : ℕ) (m : List ℕ) (next : ℕ) (k : Bool) : Type 0 where
   block : Block
@@ -54,28 +45,22 @@ record Took (Says : Block → Type 0) (l : List ℕ) (to : ℕ) (m : List ℕ) (
   put : Put (bytes_of (take most_kept (block_numbers block))) l to m next
   sized : small block ≡ k
 
-took : {Says : Block → Type 0} {l : List ℕ} {to : ℕ} {m : List ℕ} {r : Taken} {next : ℕ} {k : Bool} → Takes Says l to m r → r ≡ BlockTaken next k → Took Says l to m next k
-took {next = next} (taken b n x p) e =
-    let a : n ≡ next = cc in
-    record { block = b; says = x; put = rw a at p; sized = cc }
-took (not_taken f g) e = let z : ◌≡◌ {A = ℕ} 0 1 = cc in absurd (omega arith)
+took : {Says : Block → Type 0} {l : List ℕ} {to : ℕ} {m : List ℕ} {r : Taken} → Takes Says l to m (Some r) → Took Says l to m r.next r.small
+took (taken b n x p) = record { block = b; says = x; put = p; sized = refl }
 
-pub missed : {Says : Block → Type 0} {l : List ℕ} {to : ℕ} {m : List ℕ} {r : Taken} → Takes Says l to m r → r ≡ NotTaken → ((b : Block) → Says b → ⊥) × (m ≡ l)
-missed (taken b n x p) e = let z : ◌≡◌ {A = ℕ} 0 1 = cc in absurd (omega arith)
-missed (not_taken f g) e = (f, g)
+pub missed : {Says : Block → Type 0} {l : List ℕ} {to : ℕ} {m : List ℕ} → Takes Says l to m None → ((b : Block) → Says b → ⊥) × (m ≡ l)
+missed (not_taken f g) = (f, g)
 
 record Named (s l : List ℕ) (to : ℕ) (m : List ℕ) (next : ℕ) : Type 0 where
   alarms : List Bit
   line : AlarmsLine s alarms
   put : Put (bytes_of (alarms_front alarms)) l to m next
 
-named : {s l : List ℕ} {to : ℕ} {m : List ℕ} {r : Alarms} {next : ℕ} → TakesAlarms s l to m r → r ≡ Got next → Named s l to m next
-named {next = next} (alarms_taken rs n x p) e = let a : n ≡ next = cc in record { alarms = rs; line = x; put = rw a at p }
-named (alarms-not-taken f g) e = let z : ◌≡◌ {A = ℕ} 0 1 = cc in absurd (omega arith)
+named : {s l : List ℕ} {to : ℕ} {m : List ℕ} {next : ℕ} → TakesAlarms s l to m (Some next) → Named s l to m next
+named (alarms_taken rs n x p) = record { alarms = rs; line = x; put = p }
 
-unnamed : {s l : List ℕ} {to : ℕ} {m : List ℕ} {r : Alarms} → TakesAlarms s l to m r → r ≡ NoAlarms → (rs : List Bit) → AlarmsLine s rs → ⊥
-unnamed (alarms_taken rs n x p) e = let z : ◌≡◌ {A = ℕ} 0 1 = cc in absurd (omega arith)
-unnamed (alarms-not-taken f g) e = f
+unnamed : {s l : List ℕ} {to : ℕ} {m : List ℕ} → TakesAlarms s l to m None → (rs : List Bit) → AlarmsLine s rs → ⊥
+unnamed (alarms-not-taken f g) = f
 
 -- the lines read so far, and what is stored of them
 pub record Turn (s room : List ℕ) (at i to : ℕ) (kept : Bool) : Type 0 where
@@ -98,7 +83,7 @@ module _ {s room : List ℕ} {at i to : ℕ} {kept : Bool} (t : Turn s room at i
   room_size_lem = t.stored.size
 
   -- no end
-  pub unended_line : Open s at → {m : List ℕ} → Gathers s m (Bad at)
+  pub unended_line : Open s at → {m : List ℕ} → Gathers s m (Err at)
   unended_line o = no_listing at (bad_open t.going o)
 
   module _ {last next : ℕ} (p : Split s at last next) where
@@ -107,16 +92,16 @@ module _ {s room : List ℕ} {at i to : ℕ} {kept : Bool} (t : Turn s room at i
 
     -- neither a block nor the alarms
     pub neither :
-        {m : List ℕ} {r : Alarms} {q : List ℕ} {n : List ℕ} → ((b : Block) → BlockLine i the_line b → ⊥) → TakesAlarms the_line q to m r → r ≡ NoAlarms → Gathers s n (Bad at)
-    neither f a e =
+        {m : List ℕ} {q : List ℕ} {n : List ℕ} → ((b : Block) → BlockLine i the_line b → ⊥) → TakesAlarms the_line q to m None → Gathers s n (Err at)
+    neither f a =
         let l = line_part p in
-        no_listing at (bad_line t.going p (λ b x. f b (rw l x)) (λ rs x. unnamed a e rs (rw l x)))
+        no_listing at (bad_line t.going p (λ b x. f b (rw l x)) (λ rs x. unnamed a rs (rw l x)))
 
-    module _ {room' : List ℕ} {behind : ℕ} {r : Alarms} (a : TakesAlarms the_line room to room' r) (e : r ≡ Got behind) where
+    module _ {room' : List ℕ} {behind : ℕ} (a : TakesAlarms the_line room to room' (Some behind)) where
       -- the alarms, and more behind them
-      pub more_behind : {m : List ℕ} → next < length s → Gathers s m (Bad next)
+      pub more_behind : {m : List ℕ} → next < length s → Gathers s m (Err next)
       more_behind h =
-          let n = named a e in
+          let n = named a in
           no_listing next (bad_more t.going p n.alarms (subst (λ (w : List ℕ). AlarmsLine w n.alarms) (line_part p) n.line) h)
 
       -- the alarms, and nothing behind them: what is stored, with the count before it, is the front of the program
@@ -125,7 +110,7 @@ module _ {s room : List ℕ} {at i to : ℕ} {kept : Bool} (t : Turn s room at i
 
       all_stored :
           length s ≤ next → (end : ℕ) (rs : List Bit) → AlarmsLine the_line rs → Ready room' end (front_of t.blocks (alarms_front rs)) → {m : List ℕ} {from : ℕ} →
-          Counts i room' m from → Gathers s m (ProgramAt from end)
+          Counts i room' m from → Gathers s m (Ok (record { from = from; to = end }))
       all_stored h end rs x y {m} {from} c =
           let q : Put (groups_of 3 i) room' from m (from + length (groups_of 3 i)) = record { bytes = c.bytes; place = refl } in
           let k = counted y i from m (from + length (groups_of 3 i)) c.place q in
@@ -136,46 +121,46 @@ module _ {s room : List ℕ} {at i to : ℕ} {kept : Bool} (t : Turn s room at i
 
 -- the same where all blocks are whole, and where one is not
 module _ {s room : List ℕ} {at i to : ℕ} where
-  module _ {last next : ℕ} (p : Split s at last next) {room' : List ℕ} {behind : ℕ} {r : Alarms} where
+  module _ {last next : ℕ} (p : Split s at last next) {room' : List ℕ} {behind : ℕ} where
     pub gathered_whole :
-        (t : Turn s room at i to true) (a : TakesAlarms (take (last - at) (drop at s)) room to room' r) (e : r ≡ Got behind) → length s ≤ next → {m : List ℕ} {from : ℕ} →
-        Counts i room' m from → Gathers s m (ProgramAt from behind)
-    gathered_whole t a e h c =
-        let n = named a e in
-        all_stored t p a e h behind n.alarms n.line (ready (omega (arith, t.going.count, t.few)) n.alarms room' behind n.put t.stored) c
+        (t : Turn s room at i to true) (a : TakesAlarms (take (last - at) (drop at s)) room to room' (Some behind)) → length s ≤ next → {m : List ℕ} {from : ℕ} →
+        Counts i room' m from → Gathers s m (Ok (record { from = from; to = behind }))
+    gathered_whole t a h c =
+        let n = named a in
+        all_stored t p a h behind n.alarms n.line (ready (omega (arith, t.going.count, t.few)) n.alarms room' behind n.put t.stored) c
 
     pub gathered_front :
-        (t : Turn s room at i to false) (a : TakesAlarms (take (last - at) (drop at s)) room to room' r) (e : r ≡ Got behind) → length s ≤ next → {m : List ℕ} {from : ℕ} →
-        Counts i room' m from → Gathers s m (ProgramAt from to)
-    gathered_front t a e h c =
-        let n = named a e in
-        all_stored t p a e h to n.alarms n.line (ready_before (omega (arith, t.going.count, t.few)) n.alarms room' behind n.put t.stored) c
+        (t : Turn s room at i to false) (a : TakesAlarms (take (last - at) (drop at s)) room to room' (Some behind)) → length s ≤ next → {m : List ℕ} {from : ℕ} →
+        Counts i room' m from → Gathers s m (Ok (record { from = from; to = to }))
+    gathered_front t a h c =
+        let n = named a in
+        all_stored t p a h to n.alarms n.line (ready_before (omega (arith, t.going.count, t.few)) n.alarms room' behind n.put t.stored) c
 
-  module _ {last next : ℕ} (p : Split s at last next) {room' : List ℕ} {r : Taken} {behind : ℕ} {k : Bool}
-      (x : TakesLine i (take (last - at) (drop at s)) room to room' r) (e : r ≡ BlockTaken behind k) where
+  module _ {last next : ℕ} (p : Split s at last next) {room' : List ℕ} {r : Taken}
+      (x : TakesLine i (take (last - at) (drop at s)) room to room' (Some r)) where
     onward : (blocks : List Block) → Going s at i blocks → (b : Block) → BlockLine i (take (last - at) (drop at s)) b → Going s next (i + 1) (blocks ++ (b ∷ []))
     onward blocks g b y = rw (add-one i) (one_more g p b (subst (λ (w : List ℕ). BlockLine i w b) (line_part p) y))
 
     -- one block more
-    pub turn_kept : Turn s room at i to true → Turn s room' next (i + 1) behind k
+    pub turn_kept : Turn s room at i to true → Turn s room' next (i + 1) r.next r.small
     turn_kept t =
-        let o = took x e in
+        let o = took x in
         let l = number_small o.says in
         record {
           blocks = t.blocks ++ (o.block ∷ []);
           going = onward t.blocks t.going o.block o.says;
-          stored = subst (λ (q : Bool). Stored room' behind q (t.blocks ++ (o.block ∷ []))) o.sized (stored_more o.block (block_spelt o.says) (omega (arith, t.going.count)) room' behind o.put t.stored);
+          stored = subst (λ (q : Bool). Stored room' r.next q (t.blocks ++ (o.block ∷ []))) o.sized (stored_more o.block (block_spelt o.says) (omega (arith, t.going.count)) room' r.next o.put t.stored);
           few = omega arith;
         }
 
     pub turn_lost : Turn s room at i to false → Turn s room' next (i + 1) to false
     turn_lost t =
-        let o = took x e in
+        let o = took x in
         let l = number_small o.says in
         record {
           blocks = t.blocks ++ (o.block ∷ []);
           going = onward t.blocks t.going o.block o.says;
-          stored = stored_no_more o.block (block_spelt o.says) (omega (arith, t.going.count)) room' behind o.put t.stored;
+          stored = stored_no_more o.block (block_spelt o.says) (omega (arith, t.going.count)) room' r.next o.put t.stored;
           few = omega arith;
         }
 
@@ -198,10 +183,10 @@ pub front_so_far : {s room : List ℕ} {at i to : ℕ} {kept : Bool} → Turn s 
 front_so_far {s} {room} {at} {i} {to} t e = subst (Turn s room at i to) e t
 
 pub turn_unkept :
-    {s room : List ℕ} {at i to : ℕ} {kept : Bool} {last next : ℕ} (p : Split s at last next) {room' : List ℕ} {r : Taken} {behind : ℕ} {k : Bool} →
-    TakesLine i (take (last - at) (drop at s)) room to room' r → r ≡ BlockTaken behind k → Turn s room at i to kept → kept ≡ false → Turn s room' next (i + 1) to kept
-turn_unkept {s} {i = i} {to = to} {next = next} p {room'} x e t f = subst (Turn s room' next (i + 1) to) (sym f) (turn_lost p x e (front_so_far t f))
+    {s room : List ℕ} {at i to : ℕ} {kept : Bool} {last next : ℕ} (p : Split s at last next) {room' : List ℕ} {r : Taken} →
+    TakesLine i (take (last - at) (drop at s)) room to room' (Some r) → Turn s room at i to kept → kept ≡ false → Turn s room' next (i + 1) to kept
+turn_unkept {s} {i = i} {to = to} {next = next} p {room'} x t f = subst (Turn s room' next (i + 1) to) (sym f) (turn_lost p x (front_so_far t f))
 
 -- a line that was not taken left the room as it was
-pub untouched : {w l m n : List ℕ} {to : ℕ} {r : Alarms} → m ≡ l → TakesAlarms w m to n r → TakesAlarms w l to n r
+pub untouched : {w l m n : List ℕ} {to : ℕ} {r : Option ℕ} → m ≡ l → TakesAlarms w m to n r → TakesAlarms w l to n r
 untouched {w} {n = n} {to = to} {r = r} e a = subst (λ (q : List ℕ). TakesAlarms w q to n r) e a

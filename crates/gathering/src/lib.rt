@@ -5,8 +5,6 @@ ghost use Rattle.std.specs.Prelude.{◌≡◌, ◌+◌, ◌<◌, ◌≤◌, ◌^
 ghost use Rattle.taking.specs.Taking.{TakesLine};
 ghost use Rattle.gathering.specs.Gathering.{room_size, Gathers, Counts};
 
-use alarm_line::Alarms;
-use splitting::Line;
 use taking::Taken;
 
 // Room for the front of any program.
@@ -18,11 +16,11 @@ const MOST_BLOCKS: u8 = 200;
 // The first place behind the count of blocks, which is known only at the end.
 const BEHIND_COUNT: usize = 2;
 
-// Where the bytes stand in the room, or the offset of the first bad line.
-#[derive(Drop)]
-pub enum Gathered {
-    Program { from: usize, to: usize },
-    Bad(usize),
+// Where the bytes of a program's front stand in the room.
+#[derive(Clone, Copy)]
+pub struct Gathered {
+    pub from: usize,
+    pub to: usize,
 }
 
 // Puts the count of blocks so that it ends before the first block, and tells where it begins.
@@ -39,18 +37,18 @@ fn put_count(room: &mut [u8], n: u8) -> usize
 }
 
 // The line of block i: behind the last block there is none.
-fn take_block(line: &[u8], i: u8, room: &mut [u8], to: usize) -> Taken
+fn take_block(line: &[u8], i: u8, room: &mut [u8], to: usize) -> Option<Taken>
     requires { to + 200 < 2 ^ 64 }
     ensures { TakesLine i line.now room.old to room.new result }
 {
     if MOST_BLOCKS <= i {
-        return Taken::Bad;
+        return None;
     }
     taking::take_line(line, i, room, to)
 }
 
-// Reads a text, and stores the front of the program that it stands for.
-pub fn gather(text: &[u8], room: &mut [u8]) -> Gathered
+// Reads a text, and stores the front of the program that it stands for; or answers the offset of the first bad line.
+pub fn gather(text: &[u8], room: &mut [u8]) -> Result<Gathered, usize>
     requires { length room.old ≡ room_size }
     ensures { Gathers text.now room.new result }
 {
@@ -59,41 +57,30 @@ pub fn gather(text: &[u8], room: &mut [u8]) -> Gathered
     let mut to = BEHIND_COUNT;
     let mut kept = true;
     loop {
-        let line = splitting::next_line(text, at);
-        match line {
-            Line::Unended => return Gathered::Bad(at),
-            Line::Whole { last, next } => {
-                let taken = take_block(&text[at..last], i, room, to);
-                match taken {
-                    Taken::Block {
-                        next: behind,
-                        small,
-                    } => {
-                        i += 1;
-                        at = next;
-                        if kept {
-                            to = behind;
-                            kept = small;
-                            continue;
-                        }
-                    }
-                    Taken::Bad => {
-                        let alarms = alarm_line::take_alarms(&text[at..last], room, to);
-                        match alarms {
-                            Alarms::Bad => return Gathered::Bad(at),
-                            Alarms::Got(behind) => {
-                                if next < text.len() {
-                                    return Gathered::Bad(next);
-                                }
-                                let from = put_count(room, i);
-                                if kept {
-                                    return Gathered::Program { from, to: behind };
-                                }
-                                return Gathered::Program { from, to };
-                            }
-                        }
-                    }
+        let Some(line) = splitting::next_line(text, at) else {
+            return Err(at);
+        };
+        match take_block(&text[at..line.last], i, room, to) {
+            Some(taken) => {
+                i += 1;
+                at = line.next;
+                if kept {
+                    to = taken.next;
+                    kept = taken.small;
                 }
+            }
+            None => {
+                let Some(behind) = alarm_line::take_alarms(&text[at..line.last], room, to) else {
+                    return Err(at);
+                };
+                if line.next < text.len() {
+                    return Err(line.next);
+                }
+                let from = put_count(room, i);
+                if kept {
+                    to = behind;
+                }
+                return Ok(Gathered { from, to });
             }
         }
     }

@@ -1,169 +1,52 @@
-// The state: compared, shown and set, a part at a time.
+// The state: shown and set, a part at a time.
+use crate::line_words::{byte, index, long, number, signed};
 use image::State;
 use std::io;
 
-// Whether all 200 places are the same in every field.
-pub fn same_places(a: &State, b: &State) -> bool {
-    let ps = a.places;
-    let qs = b.places;
-    let mut i: usize = 0;
-    while i < 200 {
-        let p = ps[i];
-        let q = qs[i];
-        if p.pins != q.pins {
-            return false;
-        }
-        if p.out != q.out {
-            return false;
-        }
-        if p.ticks != q.ticks {
-            return false;
-        }
-        if p.word != q.word {
-            return false;
-        }
-        i += 1;
-    }
-    true
-}
-
-// Whether the journals hold the same, entry by entry, with the same counts.
-pub fn same_journal(a: &State, b: &State) -> bool {
-    let x = &a.journal;
-    let y = &b.journal;
-    let es = x.entries;
-    let fs = y.entries;
-    let mut i: usize = 0;
-    while i < 32 {
-        let e = es[i];
-        let f = fs[i];
-        let t = e.stamp;
-        let u = f.stamp;
-        if e.number != f.number {
-            return false;
-        }
-        if t.time != u.time {
-            return false;
-        }
-        i += 1;
-    }
-    if x.held != y.held {
-        return false;
-    }
-    x.missed == y.missed
-}
-
-// Whether two states are the same in every field.
-pub fn same(a: &State, b: &State) -> bool {
-    if a.time != b.time {
-        return false;
-    }
-    if a.alarms != b.alarms {
-        return false;
-    }
-    if !same_places(a, b) {
-        return false;
-    }
-    same_journal(a, b)
-}
-
-// Ends a line with whether the state handed back is the given one.
-pub fn end_with_change(rt: &impl Print, given: &State, back: &State) -> io::Result<()> {
-    if same(given, back) {
-        rt.print(" same\n")
-    } else {
-        rt.print(" changed\n")
-    }
-}
-
-// Command `P`: the place of a block.
-pub fn set_place(line: &[u8], s: State) -> State {
-    let k = crate::line_words::index(line, 200);
-    let mut ps = s.places;
-    let mut p = ps[k];
-    p.pins = crate::line_words::at_most(crate::line_words::number(line, 2), 255) as u8;
-    p.out = crate::line_words::number(line, 3) != 0;
-    p.ticks = crate::line_words::at_most(crate::line_words::number(line, 4), 4294967295) as u32;
-    p.word = crate::line_words::word(line, 5);
-    ps[k] = p;
-    let mut r = s;
-    r.places = ps;
-    r
-}
-
-// Command `E`: an entry of the journal.
-pub fn set_entry(line: &[u8], s: State) -> State {
-    let k = crate::line_words::index(line, 32);
-    let mut r = s;
-    let mut es = r.journal.entries;
-    let mut e = es[k];
-    e.stamp.time = crate::line_words::number(line, 3);
-    e.number = crate::line_words::at_most(crate::line_words::number(line, 2), 255) as u8;
-    es[k] = e;
-    r.journal.entries = es;
-    r
-}
-
-// Commands `H` and `M`: how many entries are held, and how many were missed.
-pub fn set_count(line: &[u8], name: u8, s: State) -> State {
-    let mut r = s;
-    if name == b'H' {
-        r.journal.held = crate::line_words::number(line, 1) as usize;
-    } else {
-        r.journal.missed = crate::line_words::number(line, 1);
-    }
-    r
+// Whether a state that is handed back is the given one.
+pub fn change(given: &State, back: &State) -> &'static str {
+    if given == back { "same" } else { "changed" }
 }
 
 // The commands that set a part of the state; any other leaves it.
-pub fn set(line: &[u8], name: u8, s: State) -> State {
-    let mut r = s;
-    if name == b'T' {
-        r.time = crate::line_words::number(line, 1);
-        return r;
+pub fn set(line: &[u8], name: u8, state: &mut State) {
+    match name {
+        b'T' => state.time = number(line, 1),
+        b'A' => state.alarms = long(line, 1),
+        b'P' => {
+            let place = &mut state.places[index(line, 200)];
+            place.pins = byte(line, 2);
+            place.out = number(line, 3) != 0;
+            place.ticks = long(line, 4);
+            place.word = signed(line, 5);
+        }
+        b'E' => {
+            let entry = &mut state.journal.entries[index(line, 32)];
+            entry.number = byte(line, 2);
+            entry.stamp.time = number(line, 3);
+        }
+        b'H' => state.journal.held = number(line, 1) as usize,
+        b'M' => state.journal.missed = number(line, 1),
+        _ => {}
     }
-    if name == b'A' {
-        r.alarms = crate::line_words::at_most(
-            crate::line_words::number(line, 1),
-            4294967295,
-        ) as u32;
-        return r;
-    }
-    if name == b'P' {
-        return set_place(line, r);
-    }
-    if name == b'E' {
-        return set_entry(line, r);
-    }
-    if name == b'H' || name == b'M' {
-        return set_count(line, name, r);
-    }
-    r
 }
 
 // Command `b`: the place of a block.
-pub fn show_place(rt: &impl Print, line: &[u8], s: &State) -> io::Result<()> {
-    let k = crate::line_words::index(line, 200);
-    let ps = s.places;
-    let p = ps[k];
-    rt.print("b")?;
-    crate::saying::say(rt, k as u64)?;
-    crate::saying::say(rt, p.pins as u64)?;
-    crate::saying::say_bool(rt, p.out)?;
-    crate::saying::say(rt, p.ticks as u64)?;
-    crate::saying::say_signed(rt, p.word)?;
-    crate::saying::end(rt)
+pub fn show_place(rt: &impl Print, line: &[u8], state: &State) -> io::Result<()> {
+    let k = index(line, 200);
+    let place = state.places[k];
+    println!(rt;
+        "b {k} {} {} {} {}",
+        place.pins,
+        u8::from(place.out),
+        place.ticks,
+        place.word
+    )
 }
 
 // Command `j`: an entry of the journal.
-pub fn show_entry(rt: &impl Print, line: &[u8], s: &State) -> io::Result<()> {
-    let k = crate::line_words::index(line, 32);
-    let es = s.journal.entries;
-    let e = es[k];
-    let t = e.stamp;
-    rt.print("j")?;
-    crate::saying::say(rt, k as u64)?;
-    crate::saying::say(rt, e.number as u64)?;
-    crate::saying::say(rt, t.time)?;
-    crate::saying::end(rt)
+pub fn show_entry(rt: &impl Print, line: &[u8], state: &State) -> io::Result<()> {
+    let k = index(line, 32);
+    let entry = state.journal.entries[k];
+    println!(rt; "j {k} {} {}", entry.number, entry.stamp.time)
 }

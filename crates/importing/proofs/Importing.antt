@@ -8,6 +8,7 @@ use lib.ListN.{length, take, drop}
 use lib.Seq.{sets}
 use lib.Dec.{eqb}
 use borrow.Author.Tests.{eq-eqb, ne_eqb, lt-ltb, le-ltb, eqb-true}
+use Rattle.std.specs.Prelude.{Ok, Err}
 use Rattle.terms.specs.Refusals.{short_buffer}
 use Rattle.writing.specs.Expressions.{bytes_of}
 use Rattle.program.specs.Program.{Program}
@@ -21,7 +22,6 @@ use Rattle.exchange.specs.Exchange.{refused, done, handed, filled}
 use Rattle.layout.specs.Layout.{Listing}
 use Rattle.layout.specs.Lines.{BadLine}
 use Rattle.gathering.specs.declared.Gathered.{Gathered}
-use Rattle.gathering.specs.declared.Gathered.TheVariants.{Program as ProgramAt, Bad}
 use Rattle.gathering.specs.Gathering.{Gathers, gathers, no_listing}
 use Rattle.gathering.proofs.Spelt.{listing_spelt}
 use Rattle.importing.specs.Imports.{by_acceptance, into_buffer, imported_as, imported_into, Hands, Imports, a_listing}
@@ -75,13 +75,8 @@ pub record Found (s m : List ℕ) (from to : ℕ) : Type 0 where
   pub within : to ≤ length m
   pub bytes : take (to - from) (drop from m) ≡ bytes_of (front program)
 
-pub found : {s m : List ℕ} {g : Gathered} {from to : ℕ} → Gathers s m g → g ≡ ProgramAt from to → Found s m from to
-found {s} {m} {from = from} {to = to} (gathers p a b x h k y) e =
-    let i : a ≡ from = cc in
-    let j : b ≡ to = cc in
-    rw (← i, ← j) (record { program = p; listing = x; forward = h; within = k; bytes = y })
-found (no_listing k x) e = let z : ◌≡◌ {A = ℕ} 0 1 = cc in absurd (omega arith)
+pub found : {s m : List ℕ} {g : Gathered} → Gathers s m (Ok g) → Found s m g.from g.to
+found (gathers p a b x h k y) = record { program = p; listing = x; forward = h; within = k; bytes = y }
 
-pub none_found : {s m : List ℕ} {g : Gathered} {k : ℕ} → Gathers s m g → g ≡ Bad k → BadLine s k
-none_found (gathers p a b x h i y) e = let z : ◌≡◌ {A = ℕ} 0 1 = cc in absurd (omega arith)
-none_found {s} {k = k} (no_listing j x) e = let i : j ≡ k = cc in rw (← i) x
+pub none_found : {s m : List ℕ} {k : ℕ} → Gathers s m (Err k) → BadLine s k
+none_found (no_listing j x) = x

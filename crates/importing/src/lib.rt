@@ -4,7 +4,7 @@
 ghost use Rattle.importing.specs.Imports.{Hands, Imports};
 
 use exchange::Exchange;
-use gathering::{Gathered, ROOM};
+use gathering::ROOM;
 
 // Hands over a program, if it is accepted and has room.
 fn hand_over(program: &[u8], out: &mut [u8]) -> Exchange
@@ -26,9 +26,8 @@ pub fn import_listing(text: &[u8], out: &mut [u8]) -> Exchange
     ensures { Imports text.now out.old out.new result }
 {
     let mut room = [0u8; ROOM];
-    let gathered = gathering::gather(text, &mut room[..]);
-    match gathered {
-        Gathered::Bad(k) => exchange::refuse(terms::BAD_TEXT, k),
-        Gathered::Program { from, to } => hand_over(&room[from..to], out),
+    match gathering::gather(text, &mut room[..]) {
+        Ok(front) => hand_over(&room[front.from..front.to], out),
+        Err(k) => exchange::refuse(terms::BAD_TEXT, k),
     }
 }

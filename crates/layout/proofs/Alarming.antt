@@ -14,8 +14,8 @@ use Rattle.numbers.specs.Types.{bit_ref}
 use Rattle.grammar.specs.Grammar.{space, spaces}
 use Rattle.grammar.specs.Machine.{Spans}
 use Rattle.grammar.proofs.From.{after}
-use Rattle.spelling.specs.declared.Named.{Named}
-use Rattle.spelling.specs.declared.Named.TheVariants.{Bit as BitName, NoName}
+use Rattle.spelling.specs.Spelling.{Named}
+use Rattle.spelling.specs.Spelling.{Bit as BitName, NoName}
 use Rattle.spelling.specs.Spelling.{after_spaces, name_at}
 use Rattle.spelling.proofs.Spaces.{skipped, skipped_within}
 use Rattle.forms.proofs.Numbers.{bit_in_range}

@@ -22,8 +22,8 @@ use Rattle.forms.proofs.Standing.{stands_both}
 use Rattle.words.specs.Words.{word_text}
 use Rattle.words.specs.Standing.{stands_at}
 use Rattle.words.proofs.Standing.{stands_exactly}
-use Rattle.values.specs.declared.Value.{Value}
-use Rattle.values.specs.declared.Value.TheVariants.{Got, Bad}
+use Rattle.values.specs.Reading.{Value}
+use Rattle.values.specs.Reading.{Got, Bad}
 use Rattle.values.specs.Values.{value_text}
 use Rattle.values.specs.Reading.{value_at}
 use Rattle.kinds.specs.Kinds.{LeftOut, never, reads, Field}

@@ -19,8 +19,8 @@ use Rattle.grammar.specs.Grammar.{space, spaces}
 use Rattle.grammar.specs.Machine.{Spans}
 use Rattle.grammar.proofs.From.{after, rest, stands_there}
 use Rattle.writing.proofs.Back.{ref_back}
-use Rattle.spelling.specs.declared.Named.{Named}
-use Rattle.spelling.specs.declared.Named.TheVariants.{Bit as BitName, NoName}
+use Rattle.spelling.specs.Spelling.{Named}
+use Rattle.spelling.specs.Spelling.{Bit as BitName, NoName}
 use Rattle.spelling.specs.Spelling.{after_spaces, name_at}
 use Rattle.spelling.proofs.Spaces.{skipped}
 use Rattle.forms.proofs.Standing.{stands_both}

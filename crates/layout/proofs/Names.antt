@@ -16,8 +16,8 @@ use Rattle.grammar.specs.Machine.{tens, may_be, is_digit}
 use Rattle.grammar.proofs.Complete.{may}
 use Rattle.writing.specs.Expressions.{InRange}
 use Rattle.writing.proofs.Back.{ref_back}
-use Rattle.spelling.specs.declared.Digits.TheVariants.{Got as DigitsGot}
-use Rattle.spelling.specs.declared.Named.TheVariants.{Bit as BitName}
+use Rattle.spelling.specs.Spelling.{Got as DigitsGot}
+use Rattle.spelling.specs.Spelling.{Bit as BitName}
 use Rattle.spelling.specs.Spelling.{digits_at, name_at}
 use Rattle.spelling.proofs.Names.{digits_good, name_good}
 use Rattle.shown.specs.Show.{in_digits, name_of}

@@ -19,7 +19,7 @@ use Rattle.grammar.proofs.Builds.{one_reading}
 use Rattle.grammar.proofs.From.{rest}
 use Rattle.writing.specs.Expressions.{InRange}
 use Rattle.writing.proofs.Back.{ref_back}
-use Rattle.spelling.specs.declared.Named.TheVariants.{NoName}
+use Rattle.spelling.specs.Spelling.{NoName}
 use Rattle.spelling.specs.Spelling.{after_spaces, name_at}
 use Rattle.forms.specs.Written.{Each}
 use Rattle.forms.proofs.Standing.{stands_both}

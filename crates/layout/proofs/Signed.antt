@@ -21,8 +21,8 @@ use Rattle.grammar.specs.Machine.{is_digit}
 use Rattle.grammar.proofs.Complete.{is_digit_lem}
 use Rattle.grammar.proofs.From.{there}
 use Rattle.shown.specs.Show.{in_digits}
-use Rattle.values.specs.declared.Value.{Value}
-use Rattle.values.specs.declared.Value.TheVariants.{Got, Bad}
+use Rattle.values.specs.Reading.{Value}
+use Rattle.values.specs.Reading.{Got, Bad}
 use Rattle.values.specs.Values.{minus, signed}
 use Rattle.values.specs.Reading.{plain_of, plain_at, above, below, signed_at}
 use Rattle.layout.proofs.Runs.{number_in, AllDigits, digit_bounds, number_snoc, digits_of_lem, run_over, ran}

@@ -17,15 +17,15 @@ use Rattle.numbers.proofs.References.{bit_code_lem}
 use Rattle.numbers.specs.Types.{pin, word_pin, plus_minus, divisor, limits, number_types, bit_ref, word_ref}
 use Rattle.grammar.specs.Machine.{tens, may_be}
 use Rattle.grammar.proofs.From.{there}
-use Rattle.spelling.specs.declared.Digits.{Digits}
-use Rattle.spelling.specs.declared.Digits.TheVariants.{Got as DigitsGot, Bad as DigitsBad}
-use Rattle.spelling.specs.declared.Named.{Named}
-use Rattle.spelling.specs.declared.Named.TheVariants.{Bit as BitName, NoName}
+use Rattle.spelling.specs.Spelling.{Digits}
+use Rattle.spelling.specs.Spelling.{Got as DigitsGot, Bad as DigitsBad}
+use Rattle.spelling.specs.Spelling.{Named}
+use Rattle.spelling.specs.Spelling.{Bit as BitName, NoName}
 use Rattle.spelling.specs.Spelling.{digits_at, name_at}
 use Rattle.forms.proofs.Numbers.{bit_in_range}
 use Rattle.shown.specs.Show.{in_digits}
-use Rattle.values.specs.declared.Value.{Value}
-use Rattle.values.specs.declared.Value.TheVariants.{Got}
+use Rattle.values.specs.Reading.{Value}
+use Rattle.values.specs.Reading.{Got}
 use Rattle.values.specs.Values.{letter_a, letter_w, constant_bias, word_name, bias_of, value_text, in_field}
 use Rattle.values.specs.Reading.{signed_at, analog_of, word_of_block, word_at, bit_of, value_at}
 use Rattle.layout.proofs.Runs.{in_digits_long}

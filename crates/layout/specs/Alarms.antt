@@ -1,8 +1,8 @@
 -- What stands in a line as alarms, as bit references (ours; Layout says what is good).
 use Rattle.std.specs.Prelude.{ℕ, zero, suc, ◌+◌, List, [], length, ltb, leb}
 use Rattle.terms.specs.Choice.{pick}
-use Rattle.spelling.specs.declared.Named.{Named}
-use Rattle.spelling.specs.declared.Named.TheVariants.{Bit, NoName}
+use Rattle.spelling.specs.Spelling.{Named}
+use Rattle.spelling.specs.Spelling.{Bit, NoName}
 use Rattle.spelling.specs.Spelling.{after_spaces, name_at}
 use Rattle.words.specs.Words.{alarms, word_text}
 use Rattle.words.specs.Standing.{stands_at}

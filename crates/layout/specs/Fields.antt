@@ -5,8 +5,8 @@ use Rattle.wire.specs.Number.{byte_at}
 use Rattle.spelling.specs.Spelling.{after_spaces}
 use Rattle.words.specs.Words.{word_text}
 use Rattle.words.specs.Standing.{stands_at}
-use Rattle.values.specs.declared.Value.{Value}
-use Rattle.values.specs.declared.Value.TheVariants.{Got, Bad}
+use Rattle.values.specs.Reading.{Value}
+use Rattle.values.specs.Reading.{Got, Bad}
 use Rattle.values.specs.Reading.{value_at}
 use Rattle.kinds.specs.Kinds.{LeftOut, never, reads, Field}
 use Rattle.layout.specs.Layout.{equals}

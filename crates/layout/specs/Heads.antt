@@ -2,8 +2,8 @@
 use Rattle.std.specs.Prelude.{ℕ, zero, suc, ◌+◌, ◌&&◌, List, length, ltb, eqb}
 use Rattle.terms.specs.Choice.{pick}
 use Rattle.numbers.specs.Types.{kind_count}
-use Rattle.spelling.specs.declared.Named.{Named}
-use Rattle.spelling.specs.declared.Named.TheVariants.{Bit, NoName}
+use Rattle.spelling.specs.Spelling.{Named}
+use Rattle.spelling.specs.Spelling.{Bit, NoName}
 use Rattle.spelling.specs.Spelling.{after_spaces, name_at}
 use Rattle.words.specs.Words.{letters_of, word_text}
 use Rattle.words.specs.Standing.{stands_at}

@@ -6,6 +6,10 @@ use mathlib.Core.List.{List, [], ◌∷◌}
 use native.Mathlib.Numerals.{add-one}
 use native.Mathlib.Omega.{arith}
 use lib.ListN.{length}
+use lib.Dec.{ltb}
+use borrow.Author.Tests.{ltb-true, ltb-false}
+use Rattle.std.specs.Prelude.{Option, None, Some}
+use Rattle.terms.proofs.Choice.{pick_case}
 use Rattle.wire.specs.Facts.{Stands}
 use Rattle.numbers.specs.Types.{kind_count}
 use Rattle.words.specs.Words.{letters_of, word_text}
@@ -13,6 +17,20 @@ use Rattle.words.specs.Standing.{stands_at}
 use Rattle.layout.specs.Heads.{kind_from, kind_at}
 use Rattle.layout.proofs.Heading.{two_letters, kind_stands}
 use Rattle.layout.proofs.Fielding.{stands_within}
+use Rattle.lining.specs.Lining.{as_kind}
+
+-- what the code answers, once it is known which it is
+pub kind_found : (kind : ℕ) {k : ℕ} → Some k ≡ as_kind kind → (kind ≡ k) × (k < kind_count)
+kind_found kind {k} =
+    pick_case (λ (r : Option ℕ). Some k ≡ r → (kind ≡ k) × (k < kind_count)) (ltb kind kind_count)
+    (λ t e. let a : kind ≡ k = cc in (a, omega (arith, ltb-true kind kind_count t)))
+    (λ _ e. let z : ◌≡◌ {A = ℕ} 0 1 = cc in absurd (omega arith))
+
+pub kind_lost : (kind : ℕ) → None ≡ as_kind kind → kind_count ≤ kind
+kind_lost kind =
+    pick_case (λ (r : Option ℕ). None ≡ r → kind_count ≤ kind) (ltb kind kind_count)
+    (λ _ e. let z : ◌≡◌ {A = ℕ} 0 1 = cc in absurd (omega arith))
+    (λ t _. ltb-false kind kind_count t)
 
 module _ (s : List ℕ) (at k : ℕ) where
   module _ (h : k < kind_count) where

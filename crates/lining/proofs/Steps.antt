@@ -9,6 +9,7 @@ use lib.Dec.{ltb}
 use lib.ListN.{length, get_or, set, drop, replicate, drop_of_length-le, get_or-eq_default}
 use lib.Seq.{sets, drop-cons}
 use borrow.Author.Tests.{ltb-true, le-leb, lt-leb}
+use Rattle.std.specs.Prelude.{Option, Some}
 use Rattle.terms.specs.Choice.{pick, every}
 use Rattle.terms.proofs.Choice.{pick_case}
 use Rattle.terms.proofs.Every.{every_at}
@@ -16,8 +17,8 @@ use Rattle.numbers.specs.Types.{number_types, kind_count}
 use Rattle.grammar.specs.Grammar.{space}
 use Rattle.spelling.specs.Spelling.{after_spaces}
 use Rattle.words.specs.Words.{word_count, words, word_text}
-use Rattle.values.specs.declared.Value.{Value}
-use Rattle.values.specs.declared.Value.TheVariants.{Got, Bad}
+use Rattle.values.specs.Reading.{Value}
+use Rattle.values.specs.Reading.{Got, Bad}
 use Rattle.values.specs.Reading.{value_at}
 use Rattle.kinds.specs.Kinds.{LeftOut, never, reads, Field, kind_of, fields_of, listed_fields}
 use Rattle.columns.specs.Columns.{no_field, field_of, must_stand, left_code}
@@ -25,7 +26,6 @@ use Rattle.layout.specs.Fields.{Found, found, lost, before, named_at, value_plac
 use Rattle.layout.proofs.Valued.{value_told}
 use Rattle.layout.proofs.Rows.{Name, Row as RowOf, row_of}
 use Rattle.layout.proofs.Fielding.{is_named, told_inside}
-use Rattle.lining.specs.declared.Row.{Row}
 use Rattle.lining.specs.Lining.{left_at, field_at, as_row}
 
 -- a field of a row of numbers
@@ -106,8 +106,8 @@ module _ (s : List ℕ) (at : ℕ) where
       go (reads u) e = let a : at ≡ next = cc in omega arith
 
 -- what is found from field i on, with the numbers of the fields before it
-abbrev pub onto : List ℕ → ℕ → Found → Row
-onto l i (found vs) = record { good = true; numbers = sets l i vs }
+abbrev pub onto : List ℕ → ℕ → Found → Option (List ℕ)
+onto l i (found vs) = Some (sets l i vs)
 onto l i lost = as_row lost
 
 pub all_of : (x : Found) → onto (replicate 5 0) 0 x ≡ as_row x
@@ -135,6 +135,6 @@ module _ (fs : List Field) (s : List ℕ) (l : List ℕ) (i at : ℕ) where
     unfolding fields_from
     more_follows p = rw (drop_of_length-le fs h, lt-leb (length s) (after_spaces s at) p)
 
-    pub none_follows : length s ≤ after_spaces s at → onto l i (fields_from (drop i fs) s at) ≡ record { good = true; numbers = l }
+    pub none_follows : length s ≤ after_spaces s at → onto l i (fields_from (drop i fs) s at) ≡ Some l
     unfolding fields_from
     none_follows p = rw (drop_of_length-le fs h, le-leb (length s) (after_spaces s at) p)

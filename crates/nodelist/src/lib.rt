@@ -11,8 +11,7 @@ pub const PLACES: usize = 64;
 pub fn put(nodes: &mut [u8; PLACES], at: usize, number: u8)
     ensures { nodes.new ≡ set nodes.old at number }
 {
-    let all = &nodes[..];
-    if at < all.len() {
+    if at < PLACES {
         nodes[at] = number;
     }
 }
@@ -21,20 +20,9 @@ pub fn put(nodes: &mut [u8; PLACES], at: usize, number: u8)
 pub fn insert(nodes: &mut [u8; PLACES], from: usize, count: usize, number: u8)
     ensures { nodes.new ≡ sets nodes.old from (number ∷ take count (drop from nodes.old)) }
 {
-    // Not used: a proof learns an array's length from a slice of it.
-    let all = &nodes[..];
-    let mut last = number;
-    let mut at = from;
-    let mut left = count;
-    while 0 < left {
-        if PLACES <= at {
-            return;
-        }
-        let next = nodes[at];
-        nodes[at] = last;
-        last = next;
-        at += 1;
-        left -= 1;
+    if from < PLACES {
+        let end = from + count.min(PLACES - 1 - from);
+        nodes.copy_within(from..end, from + 1);
+        nodes[from] = number;
     }
-    put(nodes, at, last);
 }

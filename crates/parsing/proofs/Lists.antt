@@ -1,6 +1,6 @@
 -- What each turn of a list's loop comes to: the first item, one more behind an operator, and the end. Assumes nothing.
 use Prim.Native.Nat.{ℕ, zero, suc, ◌+◌, max, ◌<◌, ◌≤◌}
-use mathlib.Core.Path.{◌≡◌, refl, sym, ap, subst, ◌∙◌}
+use mathlib.Core.Path.{◌≡◌, refl, sym, ap, ◌∙◌}
 use mathlib.Core.List.{List, ◌∷◌, ◌++◌}
 use native.Mathlib.Omega.{arith}
 use lib.ListN.{length, take, drop, length-append, length-drop}
@@ -13,12 +13,10 @@ use Rattle.grammar.specs.Machine.{want, had, dead, stop, from, Spans}
 use Rattle.grammar.proofs.Complete.{passes, sign}
 use Rattle.grammar.proofs.Places.{not_dead}
 use Rattle.grammar.proofs.From.{rest, after, goes}
-use Rattle.spelling.specs.declared.Sign.TheVariants.{Nothing, Broken}
+use Rattle.spelling.specs.Spelling.{Nothing, Broken}
 use Rattle.spelling.specs.Spelling.{number_of, level_of, sign_at}
 use Rattle.spelling.proofs.Signs.{Signed, sign_broken}
-use Rattle.parsing.specs.declared.Piece.{Piece}
-use Rattle.parsing.specs.declared.Piece.TheVariants.{Read, Bad}
-use Rattle.parsing.specs.Parsing.{Ready, NoSign, Free, Took, Parses}
+use Rattle.parsing.specs.Parsing.{Ready, NoSign, Free, Took}
 use Rattle.parsing.proofs.Trees.{numbers_of, some_nodes, no_deeper, sign_long, reads_long}
 
 -- what a list of a level is made of
@@ -41,17 +39,6 @@ module _ (s : List ℕ) where
   pub stands_within : {at next : ℕ} {w : List ℕ} → Spans s at w next → at ≤ length s → next ≤ length s
   stands_within {at} {next} {w} x h =
       omega (arith, x.end, ap length (rest s x), length-append w (drop next s), length-drop at s, length-drop next s)
-
-  -- what an answer says, once it is known which it is
-  pub took :
-      {around : ℕ} {level : Level} {at first : ℕ} {l m : List ℕ} {r : Piece} {next count deep : ℕ} → r ≡ Read next count deep →
-      Parses s around level at first l m r → Took s around level at first l m next count deep
-  took {around} {level} {at} {first} {l} {m} e h = subst (λ (r : Piece). Parses s around level at first l m r) e h
-
-  pub stopped :
-      (around : ℕ) (level : Level) (at first : ℕ) (l m : List ℕ) {r : Piece} {k : ℕ} → r ≡ Bad k → Parses s around level at first l m r →
-      from s (want around) at ≡ stop k
-  stopped around level at first l m e h = subst (λ (r : Piece). Parses s around level at first l m r) e h
 
   pub passed : {around : ℕ} {level : Level} {at next : ℕ} {w : List ℕ} {t : Expr} → Spans s at w next → Reads around level w t
       → from s (want around) at ≡ from s (had around) next
@@ -149,7 +136,7 @@ module _ (s : List ℕ) where
         -- the sizes with one item more
         pub sums :
             {i j : List ℕ} {q b e : ℕ} → Ready s at first → Took s around item k (first + n + 1) i j q b e →
-            (n + (b + 1) ≤ length s) × ((max d e < length s) × (p < q))
+            (n + b + 1 ≤ length s) × ((max d e < length s) × (p < q))
         sums r h =
             let z = sized h.stands h.reads h.counted h.measured in
             let o = later r in
@@ -159,7 +146,7 @@ module _ (s : List ℕ) where
         -- one item more
         pub goes_on :
             {i j : List ℕ} {q b e r : ℕ} → i ≡ sets m first (o ∷ take n (drop first m)) → Took s around item k (first + n + 1) i j q b e → r ≡ suc (max d e) →
-            Going around list item at first l n₀ j q (n + (b + 1)) r
+            Going around list item at first l n₀ j q (n + b + 1) r
         goes_on {i} {j} {q} {b} {e} put h f =
             let t = operator_first g.tree in
             let u = operator_first h.tree in

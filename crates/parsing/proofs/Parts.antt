@@ -17,7 +17,7 @@ use Rattle.grammar.specs.Machine.{want, had, step, stop, from, Spans}
 use Rattle.grammar.proofs.Machines.{run, Goes, ◌then◌}
 use Rattle.grammar.proofs.Complete.{opens, spaces_want}
 use Rattle.grammar.proofs.From.{byte, after, there, goes, halts}
-use Rattle.spelling.specs.declared.Named.TheVariants.{NoName}
+use Rattle.spelling.specs.Spelling.{NoName}
 use Rattle.spelling.specs.Spelling.{name_at}
 use Rattle.spelling.proofs.Names.{Called, name_bad}
 use Rattle.spelling.proofs.Signs.{no_sign}

@@ -1,15 +1,14 @@
 -- What the functions below the calls answer (ours); no promise needs it.
-use Rattle.std.specs.Prelude.{ℕ, ◌≤◌, ◌≡◌, List, length}
+use Rattle.std.specs.Prelude.{ℕ, ◌≤◌, ◌≡◌, List, length, Result, Ok, Err}
 use Rattle.std.proofs.lemmas.List.Edits.{sets}
 use Rattle.wire.specs.Number.{byte_at}
 use Rattle.numbers.specs.Blocks.{Expr, nodes}
 use Rattle.writing.specs.Expressions.{operator_first, depth}
 use Rattle.grammar.specs.Grammar.{space, Level, or_list, xor_list, and_list, part, Reads}
 use Rattle.grammar.specs.Machine.{want, stop, from, Spans}
-use Rattle.spelling.specs.declared.Sign.TheVariants.{Nothing}
+use Rattle.spelling.specs.Spelling.{Nothing}
 use Rattle.spelling.specs.Spelling.{number_of, sign_at}
 use Rattle.parsing.specs.declared.Piece.{Piece}
-use Rattle.parsing.specs.declared.Piece.TheVariants.{Read, Bad}
 
 -- a place of the text, and one for the next node that is no further
 pub record Ready (s : List ℕ) (at first : ℕ) : Type 0 where
@@ -42,6 +41,6 @@ pub record Took (s : List ℕ) (around : ℕ) (level : Level) (at first : ℕ) (
   pub within : next ≤ length s
 
 -- read, or bad at the place where the acceptor stops
-abbrev pub Parses : List ℕ → ℕ → Level → ℕ → ℕ → List ℕ → List ℕ → Piece → Type 0
-Parses s around level at first l m (Read next count deep) = Took s around level at first l m next count deep
-Parses s around level at first l m (Bad k) = from s (want around) at ≡ stop k
+abbrev pub Parses : List ℕ → ℕ → Level → ℕ → ℕ → List ℕ → List ℕ → Result Piece ℕ → Type 0
+Parses s around level at first l m (Ok r) = Took s around level at first l m r.next r.count r.deep
+Parses s around level at first l m (Err k) = from s (want around) at ≡ stop k

@@ -4,24 +4,20 @@
 ghost use Rattle.std.specs.Prelude.{◌≡◌, suc, max, ◌<◌};
 ghost use Rattle.grammar.specs.Grammar.{or_list, xor_list, and_list, part};
 ghost use Rattle.spelling.specs.Spelling.{level_of};
-ghost use Rattle.parsing.specs.Listing.{Lists, listed_bad};
+ghost use Rattle.parsing.specs.Listing.{Lists};
 ghost use Rattle.parsing.specs.Parsing.{Ready, Parses};
 
 use nodelist::PLACES;
-use spelling::{Named, Sign};
 
 // How many parentheses may be open at once.
 const MOST_OPEN: u8 = 16;
 
-// What a list or a part was read as: the place behind it, how many nodes it has and how deep it is; or the place of a bad byte.
-#[derive(Drop)]
-enum Piece {
-    Read {
-        next: usize,
-        count: usize,
-        deep: usize,
-    },
-    Bad(usize),
+// What a list or a part was read as: the place behind it, how many nodes it has and how deep it is.
+#[derive(Clone, Copy)]
+struct Piece {
+    next: usize,
+    count: usize,
+    deep: usize,
 }
 
 // How deep a node over two parts is.
@@ -32,9 +28,15 @@ fn over(a: usize, b: usize) -> usize
     if a < b { b + 1 } else { a + 1 }
 }
 
-// A name or an or-list in parentheses, after any number of `!`, with the spaces around it.
+// A name or an or-list in parentheses, after any number of `!`, with the spaces around it; or the place of a bad byte.
 #[cycle(and_list_by_level_list_or_list_part_xor_list)]
-fn part(text: &[u8], at: usize, around: u8, nodes: &mut [u8; PLACES], first: usize) -> Piece
+fn part(
+    text: &[u8],
+    at: usize,
+    around: u8,
+    nodes: &mut [u8; PLACES],
+    first: usize,
+) -> Result<Piece, usize>
     requires { Ready text.now at first }
     ensures { Parses text.now around part at first nodes.old nodes.new result }
 {
@@ -49,40 +51,36 @@ fn part(text: &[u8], at: usize, around: u8, nodes: &mut [u8; PLACES], first: usi
     }
     if b == b'(' {
         if MOST_OPEN <= around {
-            return Piece::Bad(p);
+            return Err(p);
         }
-        let inner = or_list(text, p + 1, around + 1, nodes, first + nots);
-        return match inner {
-            Piece::Bad(k) => Piece::Bad(k),
-            Piece::Read { next, count, deep } => {
-                if spelling::byte_at(text, next) != b')' {
-                    return Piece::Bad(next);
-                }
-                Piece::Read {
-                    next: spelling::skip_spaces(text, next + 1),
-                    count: nots + count,
-                    deep: nots + deep,
-                }
-            }
-        };
-    }
-    let n = spelling::read_name(text, p);
-    match n {
-        Named::NoName(k) => Piece::Bad(k),
-        Named::Bit(r, next) => {
-            nodelist::put(nodes, first + nots, (6 + r) as u8);
-            Piece::Read {
-                next: spelling::skip_spaces(text, next),
-                count: nots + 1,
-                deep: nots + 1,
-            }
+        let inner = or_list(text, p + 1, around + 1, nodes, first + nots)?;
+        if spelling::byte_at(text, inner.next) != b')' {
+            return Err(inner.next);
         }
+        return Ok(Piece {
+            next: spelling::skip_spaces(text, inner.next + 1),
+            count: nots + inner.count,
+            deep: nots + inner.deep,
+        });
     }
+    let (r, next) = spelling::read_name(text, p)?;
+    nodelist::put(nodes, first + nots, (6 + r) as u8);
+    Ok(Piece {
+        next: spelling::skip_spaces(text, next),
+        count: nots + 1,
+        deep: nots + 1,
+    })
 }
 
 // Parts between `&` and `!&`.
 #[cycle(and_list_by_level_list_or_list_part_xor_list)]
-fn and_list(text: &[u8], at: usize, around: u8, nodes: &mut [u8; PLACES], first: usize) -> Piece
+fn and_list(
+    text: &[u8],
+    at: usize,
+    around: u8,
+    nodes: &mut [u8; PLACES],
+    first: usize,
+) -> Result<Piece, usize>
     requires { Ready text.now at first }
     ensures { Parses text.now around and_list at first nodes.old nodes.new result }
 {
@@ -91,7 +89,13 @@ fn and_list(text: &[u8], at: usize, around: u8, nodes: &mut [u8; PLACES], first:
 
 // And-lists between `^`.
 #[cycle(and_list_by_level_list_or_list_part_xor_list)]
-fn xor_list(text: &[u8], at: usize, around: u8, nodes: &mut [u8; PLACES], first: usize) -> Piece
+fn xor_list(
+    text: &[u8],
+    at: usize,
+    around: u8,
+    nodes: &mut [u8; PLACES],
+    first: usize,
+) -> Result<Piece, usize>
     requires { Ready text.now at first }
     ensures { Parses text.now around xor_list at first nodes.old nodes.new result }
 {
@@ -100,7 +104,13 @@ fn xor_list(text: &[u8], at: usize, around: u8, nodes: &mut [u8; PLACES], first:
 
 // Xor-lists between `|` and `!|`.
 #[cycle(and_list_by_level_list_or_list_part_xor_list)]
-fn or_list(text: &[u8], at: usize, around: u8, nodes: &mut [u8; PLACES], first: usize) -> Piece
+fn or_list(
+    text: &[u8],
+    at: usize,
+    around: u8,
+    nodes: &mut [u8; PLACES],
+    first: usize,
+) -> Result<Piece, usize>
     requires { Ready text.now at first }
     ensures { Parses text.now around or_list at first nodes.old nodes.new result }
 {
@@ -116,7 +126,7 @@ fn by_level(
     nodes: &mut [u8; PLACES],
     first: usize,
     level: u8,
-) -> Piece
+) -> Result<Piece, usize>
     requires ready { Ready text.now at first }
     requires level_bound { level < 4 }
     ensures { Parses text.now around (level_of level) at first nodes.old nodes.new result }
@@ -138,91 +148,44 @@ fn list(
     nodes: &mut [u8; PLACES],
     first: usize,
     level: u8,
-) -> Piece
+) -> Result<Piece, usize>
     requires ready { Ready text.now at first }
     requires level_bound { level < 3 }
     ensures { Parses text.now around (level_of level) at first nodes.old nodes.new result }
 {
-    let one = by_level(text, at, around, nodes, first, level + 1);
-    match one {
-        Piece::Bad(k) => Piece::Bad(k),
-        Piece::Read { next, count, deep } => {
-            let mut p = next;
-            let mut n = count;
-            let mut d = deep;
-            loop {
-                let g = spelling::read_sign(text, p, level);
-                match g {
-                    Sign::Nothing => {
-                        return Piece::Read {
-                            next: p,
-                            count: n,
-                            deep: d,
-                        };
-                    }
-                    Sign::Broken(k) => return Piece::Bad(k),
-                    Sign::Of(o, k) => {
-                        nodelist::insert(nodes, first, n, o);
-                        let item = by_level(text, k, around, nodes, first + n + 1, level + 1);
-                        match item {
-                            Piece::Bad(j) => return Piece::Bad(j),
-                            Piece::Read {
-                                next: q,
-                                count: m,
-                                deep: e,
-                            } => {
-                                p = q;
-                                n += m + 1;
-                                d = over(d, e);
-                            }
-                        }
-                    }
-                }
-            }
-        }
+    let mut whole = by_level(text, at, around, nodes, first, level + 1)?;
+    while let Some((op, behind)) = spelling::read_sign(text, whole.next, level)? {
+        nodelist::insert(nodes, first, whole.count, op);
+        let item = by_level(text, behind, around, nodes, first + whole.count + 1, level + 1)?;
+        whole = Piece {
+            next: item.next,
+            count: whole.count + item.count + 1,
+            deep: over(whole.deep, item.deep),
+        };
     }
+    Ok(whole)
 }
 
-// How many nodes the tree of a text has and how deep it is; or the place of its first bad byte.
-#[derive(Drop)]
-pub enum Reading {
-    Tree { count: usize, deep: usize },
-    Bad(usize),
-}
-
-// With the node numbers of the tree, as far as there are places.
-#[derive(Drop)]
-pub struct Listed {
-    pub reading: Reading,
+// The tree of a text: how many nodes it has and how deep it is, and their numbers, as far as there are places.
+#[derive(Clone, Copy)]
+pub struct Tree {
+    pub count: usize,
+    pub deep: usize,
     pub nodes: [u8; PLACES],
 }
 
-// A text that is bad at a place.
-fn none_listed(at: usize) -> Listed
-    ensures { result ≡ listed_bad at }
-{
-    Listed {
-        reading: Reading::Bad(at),
-        nodes: [0u8; PLACES],
-    }
-}
-
-// Reads a whole text, whatever the size of its tree.
-pub fn list_nodes(text: &[u8]) -> Listed
+// Reads a whole text, whatever the size of its tree; or the place of its first bad byte.
+pub fn list_nodes(text: &[u8]) -> Result<Tree, usize>
     ensures { Lists text.now result }
 {
     let mut nodes = [0u8; PLACES];
-    let whole = or_list(text, 0, 0, &mut nodes, 0);
-    match whole {
-        Piece::Bad(k) => none_listed(k),
-        Piece::Read { next, count, deep } => {
-            if next < text.len() {
-                return none_listed(next);
-            }
-            Listed {
-                reading: Reading::Tree { count, deep },
-                nodes,
-            }
-        }
+    let whole = or_list(text, 0, 0, &mut nodes, 0)?;
+    if whole.next < text.len() {
+        return Err(whole.next);
     }
+    Ok(Tree {
+        count: whole.count,
+        deep: whole.deep,
+        nodes,
+    })
 }

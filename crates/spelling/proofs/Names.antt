@@ -7,7 +7,9 @@ use native.Mathlib.Omega.{arith}
 use lib.ListN.{length}
 use lib.Dec.{eqb, leb}
 use borrow.Author.Tests.{eqb-true, ne_eqb, leb-true}
-use Rattle.terms.proofs.Choice.{pick_case, both}
+use Rattle.std.specs.Prelude.{Option, None, Some, Result, Ok, Err}
+use Rattle.std.specs.Result.{result_ok}
+use Rattle.terms.proofs.Choice.{pick_case, both, pairs}
 use Rattle.wire.specs.Number.{byte_at}
 use Rattle.numbers.specs.Blocks.{Bit, off, on, input, output, bit_code}
 use Rattle.grammar.specs.Grammar.{letter_b, letter_i, digit, Decimal, no_digits, one_more, Name, name_0, name_1, name_I, name_B}
@@ -15,11 +17,11 @@ use Rattle.grammar.specs.Machine.{State, want, digits, dead, tens, may_be, is_di
 use Rattle.grammar.proofs.Machines.{run}
 use Rattle.grammar.proofs.Complete.{may_be_lem}
 use Rattle.grammar.proofs.From.{nothing, byte, after, there, goes, halts}
-use Rattle.spelling.specs.declared.Digits.{Digits}
-use Rattle.spelling.specs.declared.Digits.TheVariants.{Got, Bad}
-use Rattle.spelling.specs.declared.Named.{Named}
-use Rattle.spelling.specs.declared.Named.TheVariants.{Bit as BitName, NoName}
-use Rattle.spelling.specs.Spelling.{digits_at, named, name_at}
+use Rattle.spelling.specs.Spelling.{Digits}
+use Rattle.spelling.specs.Spelling.{Got, Bad}
+use Rattle.spelling.specs.Spelling.{Named}
+use Rattle.spelling.specs.Spelling.{Bit as BitName, NoName}
+use Rattle.spelling.specs.Spelling.{digits_at, named, name_at, as_digits, as_named}
 
 -- one byte that does not kill the acceptor
 pub eats : (s : List ℕ) (st end : State) (at : ℕ) → at < length s → step st (byte_at s at) ≡ end → (end ≡ dead → ⊥) → from s st at ≡ from s end (at + 1)
@@ -187,3 +189,37 @@ module _ (s : List ℕ) (at : ℕ) where
       let a : at ≡ q = cc in
       halts s (want d) at (rw (ne_eqb b 32 n32, ne_eqb b 33 n33, ne_eqb b 40 n40, n48, n49, n73, n66)) refl ∙ ap stop a))))
       e
+
+-- what the code answers, once it is known which it is
+pub name_has : (x : Named) {v next : ℕ} → Ok (v, next) ≡ as_named x → x ≡ BitName v next
+name_has (BitName w n) {v} {next} e = let p : ◌≡◌ {A = ℕ × ℕ} (v, next) (w, n) = cc in let q = pairs p in cc
+name_has (NoName k) e = let z : ◌≡◌ {A = ℕ} 0 1 = cc in absurd (omega arith)
+
+pub no_name : (x : Named) {k : ℕ} → Err k ≡ as_named x → x ≡ NoName k
+no_name (BitName w n) e = let z : ◌≡◌ {A = ℕ} 0 1 = cc in absurd (omega arith)
+no_name (NoName k) e = cc
+
+pub digits_have : (x : Digits) {v next : ℕ} → Ok (v, next) ≡ as_digits x → x ≡ Got v next
+digits_have (Got w n) {v} {next} e = let p : ◌≡◌ {A = ℕ × ℕ} (v, next) (w, n) = cc in let q = pairs p in cc
+digits_have (Bad k) e = let z : ◌≡◌ {A = ℕ} 0 1 = cc in absurd (omega arith)
+
+pub no_digits_there : (x : Digits) {k : ℕ} → Err k ≡ as_digits x → x ≡ Bad k
+no_digits_there (Got w n) e = let z : ◌≡◌ {A = ℕ} 0 1 = cc in absurd (omega arith)
+no_digits_there (Bad k) e = cc
+
+-- a name that is asked for as an option
+pub name_ok : (x : Named) {r : Result (ℕ × ℕ) ℕ} {v next : ℕ} → r ≡ as_named x → Some (v, next) ≡ result_ok r → x ≡ BitName v next
+name_ok (BitName w n) {r} {v} {next} e f =
+    let g : ◌≡◌ {A = Option (ℕ × ℕ)} (Some (v, next)) (Some (w, n)) = f ∙ ap result_ok e in
+    let p : ◌≡◌ {A = ℕ × ℕ} (v, next) (w, n) = cc in
+    let q = pairs p in
+    cc
+name_ok (NoName k) {r} {v} {next} e f =
+    let g : ◌≡◌ {A = Option (ℕ × ℕ)} (Some (v, next)) None = f ∙ ap result_ok e in
+    let z : ◌≡◌ {A = ℕ} 0 1 = cc in absurd (omega arith)
+
+pub name_off : (x : Named) {r : Result (ℕ × ℕ) ℕ} → r ≡ as_named x → None ≡ result_ok r → (k : ℕ) × (x ≡ NoName k)
+name_off (BitName w n) e f =
+    let g : ◌≡◌ {A = Option (ℕ × ℕ)} None (Some (w, n)) = f ∙ ap result_ok e in
+    let z : ◌≡◌ {A = ℕ} 0 1 = cc in absurd (omega arith)
+name_off (NoName k) e f = (k, refl)

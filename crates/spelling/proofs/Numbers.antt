@@ -1,16 +1,37 @@
 -- One digit more of a number in a name, as the code looks at it. Assumes nothing.
 use Prim.Native.Nat.{ℕ, zero, suc, ◌+◌, ◌*◌, ◌-◌, ◌<◌, ◌≤◌}
-use mathlib.Core.Path.{◌≡◌, refl, ap, ◌∙◌}
-use mathlib.Core.Bool.{true, false, ◌&&◌}
+use mathlib.Core.Path.{◌≡◌, refl, sym, ap, ◌∙◌}
+use mathlib.Core.Bool.{Bool, true, false, ◌&&◌}
 use mathlib.Core.List.{List}
 use native.Mathlib.Nat.{mul-le-mul, le-mul_of_pos_right}
 use native.Mathlib.Omega.{arith}
-use borrow.Author.Tests.{le-leb, lt-leb, lt-ltb, le-ltb}
+use lib.ListN.{length}
+use lib.Dec.{leb}
+use borrow.Author.Tests.{leb-true, le-leb, lt-leb, lt-ltb, le-ltb}
+use Rattle.std.specs.Char.{is_ascii_digit}
+use Rattle.terms.proofs.Choice.{both}
 use Rattle.wire.specs.Number.{byte_at}
 use Rattle.grammar.specs.Machine.{tens, may_be, is_digit}
 use Rattle.grammar.proofs.Complete.{some_tens}
-use Rattle.spelling.specs.declared.Digits.TheVariants.{Got, Bad}
+use Rattle.grammar.proofs.From.{there}
+use Rattle.spelling.specs.Spelling.{Got, Bad}
 use Rattle.spelling.specs.Spelling.{digits_at}
+
+-- the test of a digit, as the code asks it
+pub digit_is : (s : List ℕ) (at : ℕ) {b : ℕ} {r t : Bool} → b ≡ byte_at s at → r ≡ is_ascii_digit b → r ≡ t → is_digit (byte_at s at) ≡ t
+unfolding is_digit
+digit_is s at e f g = rw (← e) (sym f ∙ g)
+
+pub digit_most : (s : List ℕ) (at : ℕ) → is_digit (byte_at s at) ≡ true → byte_at s at ≤ 57
+unfolding is_digit
+digit_most s at e = leb-true (byte_at s at) 57 (both (leb 48 (byte_at s at)) (leb (byte_at s at) 57) e).1
+
+-- a digit stands within the text
+pub digit_here : (s : List ℕ) (at : ℕ) → is_digit (byte_at s at) ≡ true → at < length s
+unfolding is_digit
+digit_here s at e =
+    let l = leb-true 48 (byte_at s at) (both (leb 48 (byte_at s at)) (leb (byte_at s at) 57) e).0 in
+    there s at (byte_at s at) (omega arith) refl
 
 tens_most : (k : ℕ) → k ≤ 2 → tens k ≤ 100
 unfolding tens
@@ -37,19 +58,10 @@ module _ (s : List ℕ) (at n least most left : ℕ) (more : 0 < left) where
   unfolding digits_at
   fails e = let l : left ≡ suc (left - 1) = omega arith in rw l (rw e refl)
 
-  pub no_digit : byte_at s at < 48 → digits_at left n least most s at ≡ Bad at
-  unfolding is_digit
-  no_digit h = fails (rw (lt-leb 48 (byte_at s at) h))
+  pub no_digit : is_digit (byte_at s at) ≡ false → digits_at left n least most s at ≡ Bad at
+  no_digit h = fails (rw h refl)
 
-  pub no_digit_high : 57 < byte_at s at → digits_at left n least most s at ≡ Bad at
-  unfolding is_digit
-  no_digit_high h = fails (rw (le-leb 48 (byte_at s at) (omega arith), lt-leb (byte_at s at) 57 h))
-
-  module _ (low : 48 ≤ byte_at s at) (high : byte_at s at ≤ 57) {v unit : ℕ} (e : v ≡ 10 * n + (byte_at s at - 48)) (f : unit ≡ tens (left - 1)) where
-    digit : is_digit (byte_at s at) ≡ true
-    unfolding is_digit
-    digit = rw (le-leb 48 (byte_at s at) low, le-leb (byte_at s at) 57 high)
-
+  module _ (digit : is_digit (byte_at s at) ≡ true) {v unit : ℕ} (e : v ≡ 10 * n + (byte_at s at - 48)) (f : unit ≡ tens (left - 1)) where
     pub too_large : most < v * unit → digits_at left n least most s at ≡ Bad at
     unfolding may_be
     too_large h = fails (rw (digit, ← e, ← f, lt-leb (v * unit) most h))

@@ -6,15 +6,16 @@ use mathlib.Core.List.{List, [], ◌∷◌}
 use native.Mathlib.Omega.{arith}
 use lib.Dec.{eqb}
 use borrow.Author.Tests.{eqb-true}
+use Rattle.std.specs.Prelude.{Option, None, Some, Ok, Err}
 use Rattle.terms.specs.Choice.{pick}
-use Rattle.terms.proofs.Choice.{pick_case}
+use Rattle.terms.proofs.Choice.{pick_case, pairs}
 use Rattle.wire.specs.Number.{byte_at}
 use Rattle.grammar.specs.Grammar.{closing, Level, or_list, xor_list, and_list, part, Operator, and_sign, nand_sign, xor_sign, or_sign, nor_sign}
 use Rattle.grammar.specs.Machine.{State, had, banged, dead, closes, step, stop, from, Spans}
 use Rattle.grammar.proofs.From.{byte, after, there, halts}
-use Rattle.spelling.specs.declared.Sign.{Sign}
-use Rattle.spelling.specs.declared.Sign.TheVariants.{Of, Nothing, Broken}
-use Rattle.spelling.specs.Spelling.{number_of, level_of, of_level, banged_at, sign_at}
+use Rattle.spelling.specs.Spelling.{Sign}
+use Rattle.spelling.specs.Spelling.{Of, Nothing, Broken}
+use Rattle.spelling.specs.Spelling.{number_of, level_of, of_level, banged_at, sign_at, as_sign}
 use Rattle.spelling.proofs.Names.{eats}
 
 -- an operator at a place, of the list that it belongs to
@@ -116,3 +117,19 @@ no_sign s at d n32 a x o =
 
     banged_not : byte_at s at ≡ 33 → ⊥
     banged_not e = by (eqb (byte_at s (at + 1)) 38) (eqb (byte_at s (at + 1)) 124) (rw e at a) (rw e at o)
+
+-- what the code answers, once it is known which it is
+pub sign_has : (x : Sign) {o n : ℕ} {r : Option (ℕ × ℕ)} → Ok r ≡ as_sign x → r ≡ Some (o, n) → x ≡ Of o n
+sign_has (Of p m) {o} {n} e f = let p : ◌≡◌ {A = ℕ × ℕ} (o, n) (p, m) = cc in let q = pairs p in cc
+sign_has Nothing e f = let z : ◌≡◌ {A = ℕ} 0 1 = cc in absurd (omega arith)
+sign_has (Broken k) e f = let z : ◌≡◌ {A = ℕ} 0 1 = cc in absurd (omega arith)
+
+pub sign_none : (x : Sign) {r : Option (ℕ × ℕ)} → Ok r ≡ as_sign x → r ≡ None → x ≡ Nothing
+sign_none (Of p m) e f = let z : ◌≡◌ {A = ℕ} 0 1 = cc in absurd (omega arith)
+sign_none Nothing e f = refl
+sign_none (Broken k) e f = let z : ◌≡◌ {A = ℕ} 0 1 = cc in absurd (omega arith)
+
+pub sign_bad : (x : Sign) {k : ℕ} → Err k ≡ as_sign x → x ≡ Broken k
+sign_bad (Of p m) e = let z : ◌≡◌ {A = ℕ} 0 1 = cc in absurd (omega arith)
+sign_bad Nothing e = let z : ◌≡◌ {A = ℕ} 0 1 = cc in absurd (omega arith)
+sign_bad (Broken k) e = cc

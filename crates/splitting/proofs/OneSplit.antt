@@ -6,6 +6,7 @@ use mathlib.Core.List.{List, [], ◌∷◌, ◌++◌, append_assoc}
 use native.Mathlib.Omega.{arith}
 use lib.ListN.{length, take, drop, length-append}
 use lib.Seq.{take_at}
+use Rattle.std.specs.Prelude.{Option}
 use Rattle.terms.specs.Choice.{every}
 use Rattle.terms.proofs.Choice.{both, never}
 use Rattle.terms.proofs.Every.{every_join, every_append}
@@ -82,7 +83,7 @@ not_open {s} {n = n} x o =
     feed_inside (before_feed x.is_end x.line) (drop n s) (rw (x.whole, feed_behind x.is_end x.line (drop n s)) at o)
 
 -- so there is one answer
-pub one_answer : {s : List ℕ} {at : ℕ} {q r : Line} → Splits s at q → Splits s at r → q ≡ r
+pub one_answer : {s : List ℕ} {at : ℕ} {q r : Option Line} → Splits s at q → Splits s at r → q ≡ r
 one_answer (splits l n x) (splits k m y) = let o = one_split x y in rw (o.0, o.1)
 one_answer (splits l n x) (unended o) = absurd (not_open x o)
 one_answer (unended o) (splits l n x) = absurd (not_open x o)

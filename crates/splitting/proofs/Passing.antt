@@ -1,13 +1,18 @@
 -- A walk over the bytes of a line: those that were passed are inside it, and where it ends they are the line, but for a CR before the LF. Assumes nothing.
-use Prim.Native.Nat.{ℕ, suc, ◌+◌, ◌-◌, ◌<◌, ◌≤◌}
+use Prim.Native.Nat.{ℕ, zero, suc, ◌+◌, ◌-◌, ◌<◌, ◌≤◌}
 use mathlib.Core.Path.{◌≡◌, refl, sym, ap, ◌∙◌}
-use mathlib.Core.Bool.{true}
+use mathlib.Core.Bool.{Bool, true, false}
 use mathlib.Core.List.{List, [], ◌∷◌, ◌++◌}
 use native.Mathlib.Numerals.{add-one}
 use native.Mathlib.Omega.{arith}
 use lib.ListN.{length, get_or, take, drop, length-append, length-drop, take-append-drop}
-use lib.Seq.{length-take-le, take_all, take-suc, drop-cons, drop-drop, get_or-drop, get_or-take, get_or-append_seam}
-use borrow.Author.Tests.{ne_eqb}
+use lib.Seq.{length-take-le, take-suc, drop-cons, drop-drop, get_or-drop, get_or-take, get_or-append_seam}
+use lib.Dec.{eqb, ltb}
+use borrow.Author.Tests.{ltb-false, ne_eqb, eqb-true, eqb-false}
+use Rattle.std.specs.Prelude.{◌==◌, cond, Option, None, Some, position}
+use Rattle.std.specs.List.{position_or_len}
+use Rattle.std.proofs.lemmas.List.Quantifiers.{position-Some}
+use Rattle.std.proofs.lemmas.List.Sums.{fails_before_first}
 use Rattle.terms.specs.Choice.{every}
 use Rattle.terms.proofs.Choice.{both}
 use Rattle.terms.proofs.Every.{every_join, every_append}
@@ -18,6 +23,16 @@ use Rattle.layout.specs.Ends.{is_inside, Split, Open}
 -- the bytes from a place up to another
 abbrev pub between : List ℕ → ℕ → ℕ → List ℕ
 between s at p = take (p - at) (drop at s)
+
+none_before : (xs : List ℕ) → None ≡ position (λ b. b == 10) xs → length xs ≤ position_or_len (λ b. b == 10) xs
+none_before xs f = go (ltb first (length xs)) refl f
+  where
+    first : ℕ
+    first = position_or_len (λ b. b == 10) xs
+
+    go : (t : Bool) → ltb first (length xs) ≡ t → ◌≡◌ {A = Option ℕ} None (cond t (Some first) None) → length xs ≤ first
+    go true e g = let z : ◌≡◌ {A = ℕ} 0 1 = cc in absurd (omega arith)
+    go false e g = ltb-false first (length xs) e
 
 module _ (s : List ℕ) (at : ℕ) where
   pub record Passed (p : ℕ) : Type 0 where
@@ -57,9 +72,35 @@ module _ (s : List ℕ) (at : ℕ) where
             (every_append is_inside (between s at p) (byte_at s p ∷ []) g.inside (rw (ne_eqb (byte_at s p) line_feed n) refl));
       }
 
-  -- no end
-  pub open_to_end : {p : ℕ} → Passed p → length s ≤ p → Open s at
-  open_to_end {p} g h = rw (take_all (p - at) (drop at s) (omega (arith, length-drop at s))) at g.inside
+  -- all up to the first LF are passed
+  passes_up : (n : ℕ) → at + n ≤ length s → ((k : ℕ) → k < n → eqb (byte_at s (at + k)) line_feed ≡ false) → Passed (at + n)
+  passes_up zero h f = let e : at + 0 ≡ at = omega arith in rw e (passes_none (omega arith))
+  passes_up (suc n) h f =
+      let e : at + n + 1 ≡ at + suc n = omega arith in
+      rw e at (passes_on (passes_up n (omega arith) (λ k g. f k (omega arith))) (omega arith) (eqb-false (byte_at s (at + n)) line_feed (f n (omega arith))))
+
+  pub record Fed (n : ℕ) : Type 0 where
+    pub passed : Passed (at + n)
+    pub inside : at + n < length s
+    pub feed : byte_at s (at + n) ≡ line_feed
+
+  pub fed : {n : ℕ} → at ≤ length s → Some n ≡ position (λ b. b == 10) (drop at s) → Fed n
+  fed {n} h e =
+      let x = position-Some (λ b. b == 10) (drop at s) n 0 (sym e) in
+      let l : at + n < length s = omega (arith, x.0, length-drop at s) in
+      record {
+        passed = passes_up n (omega arith) (λ k g. rw (get_or-drop at s k 0) at (x.2 k g));
+        inside = l;
+        feed = eqb-true (byte_at s (at + n)) line_feed (rw (get_or-drop at s n 0) at x.1);
+      }
+
+  -- there is none
+  no_feeds : (xs : List ℕ) → ((k : ℕ) → k < length xs → eqb (get_or xs k 0) line_feed ≡ false) → every is_inside xs ≡ true
+  no_feeds [] f = refl
+  no_feeds (x ∷ xs) f = rw (f 0 (omega arith)) (no_feeds xs (λ k h. f (suc k) (omega arith)))
+
+  pub unfed : None ≡ position (λ b. b == 10) (drop at s) → Open s at
+  unfed e = no_feeds (drop at s) (λ k h. fails_before_first (λ b. b == 10) (drop at s) k 0 (omega (arith, none_before (drop at s) e)))
 
   module _ {p : ℕ} (g : Passed p) (h : p < length s) (feed : byte_at s p ≡ line_feed) where
     -- the LF alone

@@ -7,6 +7,8 @@ use native.Mathlib.Omega.{arith}
 use lib.Dec.{eqb}
 use lib.ListN.{length}
 use borrow.Author.Tests.{eqb-true, eqb-false}
+use Rattle.std.specs.Prelude.{Option, None, Some}
+use Rattle.terms.proofs.Choice.{pairs}
 use Rattle.numbers.specs.Blocks.{Block}
 use Rattle.numbers.specs.Types.{kind_count}
 use Rattle.grammar.proofs.Builds.{one_reading}
@@ -17,22 +19,19 @@ use Rattle.layout.specs.Fields.{found}
 use Rattle.layout.proofs.Rows.{row_of}
 use Rattle.layout.proofs.Fielding.{fields_read}
 use Rattle.layout.proofs.Heading.{heading_told, begun}
-use Rattle.lining.specs.declared.Head.{Head}
-use Rattle.lining.specs.declared.Head.TheVariants.{Kind, NoKind}
 use Rattle.lining.specs.Lining.{as_head}
 use Rattle.taking.specs.declared.Taken.{Taken}
-use Rattle.taking.specs.declared.Taken.TheVariants.{Bad}
 use Rattle.taking.specs.Taking.{Takes, taken, not_taken, TakesLine, RestSays, rest_says}
 use Rattle.taking.proofs.Trees.{tree_block, TreeRest, tree_said}
 
 -- what the head of a line says, as the code has it
-head_kind : (x : Heading) {h : Head} {k at : ℕ} → h ≡ as_head x → h ≡ Kind k at → x ≡ of_kind k at
-head_kind (of_kind j p) e f = let a : as_head (of_kind j p) ≡ Kind _ _ = sym e ∙ f in cc
-head_kind no_kind e f = let z : ◌≡◌ {A = ℕ} 0 1 = cc in absurd (omega arith)
+head_kind : (x : Heading) {k at : ℕ} → Some (k, at) ≡ as_head x → x ≡ of_kind k at
+head_kind (of_kind j p) {k} {at} e = let f : ◌≡◌ {A = ℕ × ℕ} (k, at) (j, p) = cc in let q = pairs f in cc
+head_kind no_kind e = let z : ◌≡◌ {A = ℕ} 0 1 = cc in absurd (omega arith)
 
-head_none : (x : Heading) {h : Head} → h ≡ as_head x → h ≡ NoKind → x ≡ no_kind
-head_none (of_kind j p) e f = let z : ◌≡◌ {A = ℕ} 0 1 = cc in absurd (omega arith)
-head_none no_kind e f = refl
+head_none : (x : Heading) → None ≡ as_head x → x ≡ no_kind
+head_none (of_kind j p) e = let z : ◌≡◌ {A = ℕ} 0 1 = cc in absurd (omega arith)
+head_none no_kind e = refl
 
 module _ (i : ℕ) (s : List ℕ) where
   -- a line that has a head, and what rests of it
@@ -68,21 +67,21 @@ module _ (i : ℕ) (s : List ℕ) where
       one_rest b.kind g.at g.known b c (rest_said b.kind g.at g.head b x) (rest_said b.kind g.at g.head c y)
 
   -- what the code answers
-  pub no_head_taken : {h : Head} {l : List ℕ} {to : ℕ} → h ≡ as_head (heading_of i s) → h ≡ NoKind → TakesLine i s l to l Bad
-  no_head_taken e f =
+  pub no_head_taken : {l : List ℕ} {to : ℕ} → None ≡ as_head (heading_of i s) → TakesLine i s l to l None
+  no_head_taken e =
       not_taken
       (λ b x. let g = (begun i s b x).head in
-      let n = head_none (heading_of i s) e f in
+      let n = head_none (heading_of i s) e in
       let z : ◌≡◌ {A = ℕ} 0 1 = cc in omega arith)
       refl
 
-  module _ (small : i < 200) (k at : ℕ) {h : Head} (e : h ≡ as_head (heading_of i s)) (f : h ≡ Kind k at) where
+  module _ (small : i < 200) (k at : ℕ) (e : Some (k, at) ≡ as_head (heading_of i s)) where
     pub rest_known : (k < kind_count) × (at ≤ length s)
-    rest_known = let g = heading_told i small s k at (head_kind (heading_of i s) e f) in (g.known, g.within)
+    rest_known = let g = heading_told i small s k at (head_kind (heading_of i s) e) in (g.known, g.within)
 
-    pub line_taken : {l m : List ℕ} {to : ℕ} {r : Taken} → Takes (RestSays k s at) l to m r → TakesLine i s l to m r
+    pub line_taken : {l m : List ℕ} {to : ℕ} {r : Option Taken} → Takes (RestSays k s at) l to m r → TakesLine i s l to m r
     line_taken (taken b next x p) = taken b next (says b x) p
       where
         says : (b : Block) → RestSays k s at b → BlockLine i s b
-        says b (rest_says {cs = cs} {w = w} y z) = (heading_told i small s k at (head_kind (heading_of i s) e f)).line cs w y z
-    line_taken (not_taken n g) = not_taken (λ b x. n b (rest_said k at (head_kind (heading_of i s) e f) b x)) g
+        says b (rest_says {cs = cs} {w = w} y z) = (heading_told i small s k at (head_kind (heading_of i s) e)).line cs w y z
+    line_taken (not_taken n g) = not_taken (λ b x. n b (rest_said k at (head_kind (heading_of i s) e) b x)) g

@@ -7,6 +7,7 @@ use native.Mathlib.Omega.{arith}
 use lib.Dec.{eqb}
 use lib.ListN.{length, take, replicate, length-take}
 use lib.Seq.{sets, length-sets, take_all}
+use Rattle.std.specs.Prelude.{None, Some}
 use Rattle.terms.specs.Choice.{every}
 use Rattle.terms.proofs.Choice.{pick_case, never}
 use Rattle.terms.proofs.Every.{both_hold}
@@ -23,9 +24,7 @@ use Rattle.layout.specs.Layout.{Fields, no_more, given, left_out, formula}
 use Rattle.layout.specs.Fields.{Found, found, lost, fields_from}
 use Rattle.layout.proofs.Rows.{row_of}
 use Rattle.layout.proofs.Fielding.{contents_of, fields_told, fields_read}
-use Rattle.lining.specs.declared.Row.{Row}
 use Rattle.lining.specs.Lining.{as_row}
-use Rattle.taking.specs.declared.Taken.TheVariants.{Block as BlockTaken, Bad}
 use Rattle.taking.specs.Taking.{Takes, taken, not_taken, RestSays, rest_says}
 use Rattle.taking.proofs.Trees.{first_put}
 
@@ -59,33 +58,31 @@ contents_small (f ∷ fs) (v ∷ vs) =
     both_hold (pick_case P (eqb f.type pin) (λ _. refl) (λ _. pick_case P (eqb f.type word_pin) (λ _. refl) (λ _. refl))) (contents_small fs vs)
 
 -- a row as the code has it
-pub row_places : (fs : List Field) (s : List ℕ) (at : ℕ) {r : Row} → r ≡ as_row (fields_from fs s at) → length r.numbers ≡ 5
-row_places fs s at = go (fields_from fs s at)
-  where
-    go : (x : Found) {r : Row} → r ≡ as_row x → length r.numbers ≡ 5
-    go (found vs) e = rw e (length-sets (replicate 5 0) 0 vs)
-    go lost e = rw e
-
-record Got (x : Found) (r : Row) : Type 0 where
+record Got (x : Found) (r : List ℕ) : Type 0 where
   numbers : List ℕ
   is : x ≡ found numbers
-  kept : r.numbers ≡ sets (replicate 5 0) 0 numbers
+  kept : r ≡ sets (replicate 5 0) 0 numbers
 
-got : (x : Found) (r : Row) → r ≡ as_row x → r.good ≡ true → Got x r
-got (found vs) r e g = record { numbers = vs; is = refl; kept = ap (λ (r : Row). r.numbers) e }
-got lost r e g = never (sym g ∙ ap (λ (r : Row). r.good) e)
+got : (x : Found) {r : List ℕ} → Some r ≡ as_row x → Got x r
+got (found vs) e = record { numbers = vs; is = refl; kept = cc }
+got lost e = let z : ◌≡◌ {A = ℕ} 0 1 = cc in absurd (omega arith)
 
-none : (x : Found) (r : Row) → r ≡ as_row x → r.good ≡ false → x ≡ lost
-none (found vs) r e g = never (sym (ap (λ (r : Row). r.good) e) ∙ g)
-none lost r e g = refl
+none : (x : Found) → None ≡ as_row x → x ≡ lost
+none (found vs) e = let z : ◌≡◌ {A = ℕ} 0 1 = cc in absurd (omega arith)
+none lost e = refl
+
+pub row_places : (fs : List Field) (s : List ℕ) (at : ℕ) {r : List ℕ} → Some r ≡ as_row (fields_from fs s at) → length r ≡ 5
+row_places fs s at e =
+    let x = got (fields_from fs s at) e in
+    ap length x.kept ∙ length-sets (replicate 5 0) 0 x.numbers
 
 module _ (s : List ℕ) (at k : ℕ) (some : 0 < k) (known : k < kind_count) where
   abbrev fs : List Field
   fs = fields_of k
 
   -- what the code answers
-  pub no_row_taken : {r : Row} {l : List ℕ} {to : ℕ} → r ≡ as_row (fields_from fs s at) → r.good ≡ false → Takes (RestSays k s at) l to l Bad
-  no_row_taken {r} e g = not_taken (λ b x. refuted b x (none (fields_from fs s at) r e g)) refl
+  pub no_row_taken : {l : List ℕ} {to : ℕ} → None ≡ as_row (fields_from fs s at) → Takes (RestSays k s at) l to l None
+  no_row_taken e = not_taken (λ b x. refuted b x (none (fields_from fs s at) e)) refl
     where
       refuted : (b : Block) → RestSays k s at b → fields_from fs s at ≡ lost → ⊥
       refuted b (rest_says {cs = cs} {w = w} f x) e =
@@ -101,14 +98,14 @@ module _ (s : List ℕ) (at k : ℕ) (some : 0 < k) (known : k < kind_count) whe
       rw (first_put n vs (replicate 5 0) h f, contents_numbers fs vs, take_all 64 (take n vs) l)
 
   pub row_taken :
-      {r : Row} {count : ℕ} {l m : List ℕ} {to next : ℕ} → at ≤ length s → r ≡ as_row (fields_from fs s at) → r.good ≡ true → count ≡ length fs →
-      Put (bytes_of (k ∷ take count r.numbers)) l to m next → Takes (RestSays k s at) l to m (BlockTaken next true)
-  row_taken {r} {count} {l} {m} {to} {next} h e g c p =
-      let x = got (fields_from fs s at) r e g in
+      {r : List ℕ} {count : ℕ} {l m : List ℕ} {to next : ℕ} → at ≤ length s → Some r ≡ as_row (fields_from fs s at) → count ≡ length fs →
+      Put (bytes_of (k ∷ take count r)) l to m next → Takes (RestSays k s at) l to m (Some (record { next = next; small = true }))
+  row_taken {r} {count} {l} {m} {to} {next} h e c p =
+      let x = got (fields_from fs s at) e in
       let vs = x.numbers in
       let y = fields_told s fs vs at (row_of k some known) h x.is in
       let j : length fs ≤ length vs = omega (arith, fields_all fs (contents_of fs vs) y.text y.fields, contents_few fs vs) in
       let b : Block = record { kind = k; fields = contents_of fs vs } in
-      let q : k ∷ take count r.numbers ≡ take most_kept (block_numbers b) =
-      ap (λ (n : ℕ). k ∷ take n r.numbers) c ∙ ap (λ (v : List ℕ). k ∷ take (length fs) v) x.kept ∙ row_kept vs j in
+      let q : k ∷ take count r ≡ take most_kept (block_numbers b) =
+      ap (λ (n : ℕ). k ∷ take n r) c ∙ ap (λ (v : List ℕ). k ∷ take (length fs) v) x.kept ∙ row_kept vs j in
       rw (← (contents_small fs vs)) (taken b next (rest_says y.fields y.stands) (subst (λ (v : List ℕ). Put (bytes_of v) l to m next) q p))

@@ -1,6 +1,6 @@
 -- The line of a BL behind its letters: a space and a formula, and what is kept of its tree. Assumes nothing.
 use Prim.Native.Nat.{ℕ, zero, suc, ◌+◌, min, ◌<◌, ◌≤◌}
-use mathlib.Core.Path.{◌≡◌, refl, sym, subst, ◌∙◌}
+use mathlib.Core.Path.{◌≡◌, refl, sym, ap, subst, ◌∙◌}
 use mathlib.Core.Bool.{Bool, ◌&&◌, and-true}
 use mathlib.Core.Logic.{⊎_elim}
 use mathlib.Core.List.{List, [], ◌∷◌, append-nil}
@@ -10,6 +10,8 @@ use lib.Dec.{ltb, leb}
 use lib.ListN.{length, get_or, set, take, drop, length-drop, length-replicate, drop_of_length-le}
 use lib.Seq.{sets, length-sets, take_all}
 use borrow.Author.Tests.{ltb-true}
+use Rattle.std.specs.Prelude.{None, Some, Result}
+use Rattle.std.specs.Result.{result_ok}
 use Rattle.terms.proofs.Choice.{both, le_or_lt}
 use Rattle.filling.specs.Filling.{Put}
 use Rattle.wire.specs.Number.{byte_at}
@@ -20,9 +22,8 @@ use Rattle.grammar.specs.Grammar.{space, Formula}
 use Rattle.grammar.specs.Machine.{Spans}
 use Rattle.grammar.proofs.From.{rest, there, stands_there}
 use Rattle.writing.specs.Expressions.{operator_first, depth, bytes_of}
-use Rattle.parsing.specs.declared.Listed.{Listed}
-use Rattle.parsing.specs.declared.Reading.TheVariants.{Bad as BadText}
-use Rattle.parsing.specs.Listing.{places, no_nodes, nodes_of, Lists, lists, lists_none}
+use Rattle.parsing.specs.declared.Tree.{Tree}
+use Rattle.parsing.specs.Listing.{places, no_nodes, nodes_of, listed_tree, Lists, lists, lists_none}
 use Rattle.parsing.proofs.Trees.{numbers_of}
 use Rattle.formula.proofs.Bounds.{Treed}
 use Rattle.values.specs.Values.{in_field}
@@ -30,7 +31,6 @@ use Rattle.kinds.specs.Kinds.{expression, bare_field, kind_of, fields_of}
 use Rattle.forms.specs.Written.{block_numbers}
 use Rattle.fronts.specs.Fronts.{small, most_kept}
 use Rattle.layout.specs.Layout.{Fields, given, left_out, formula}
-use Rattle.taking.specs.declared.Taken.TheVariants.{Block as BlockTaken, Bad}
 use Rattle.taking.specs.Taking.{Takes, taken, not_taken, RestSays, rest_says}
 
 -- the first of a list over which others were put from its front on
@@ -62,10 +62,22 @@ listed_kept t n e =
     some h = let f : n ≡ places = omega arith in rw f
 
 -- the places of what is listed
-pub listed_places : {s : List ℕ} {r : Listed} → Lists s r → length r.nodes ≡ places
+pub listed_places : {s : List ℕ} {r : Tree} → Treed s r → length r.nodes ≡ places
 unfolding nodes_of
-listed_places (lists t x) = length-sets no_nodes 0 (operator_first t) ∙ length-replicate {A = ℕ} places 0
-listed_places (lists_none k x) = length-replicate {A = ℕ} places 0
+listed_places x = ap length x.listed ∙ length-sets no_nodes 0 (operator_first x.tree) ∙ length-replicate {A = ℕ} places 0
+
+-- a tree that is asked for as an option
+pub treed_ok : {s : List ℕ} {r : Result Tree ℕ} {t : Tree} → Lists s r → Some t ≡ result_ok r → Treed s t
+treed_ok {t = t} (lists u x) e =
+    let f : t ≡ listed_tree u = cc in
+    record {
+      tree = u;
+      formula = x;
+      counted = ap (λ (r : Tree). r.count) f;
+      measured = ap (λ (r : Tree). r.deep) f;
+      listed = ap (λ (r : Tree). r.nodes) f;
+    }
+treed_ok (lists_none k x) e = let z : ◌≡◌ {A = ℕ} 0 1 = cc in absurd (omega arith)
 
 -- the block of a tree
 abbrev pub tree_block : Expr → Block
@@ -110,18 +122,18 @@ module _ (s : List ℕ) (at : ℕ) where
       })
 
   -- what the code answers
-  pub no_space_taken : {l : List ℕ} {to : ℕ} → (byte_at s at ≡ space → ⊥) → Takes (RestSays 0 s at) l to l Bad
+  pub no_space_taken : {l : List ℕ} {to : ℕ} → (byte_at s at ≡ space → ⊥) → Takes (RestSays 0 s at) l to l None
   no_space_taken n = not_taken (λ b x. n (tree_said b x).first) refl
 
-  pub no_tree_taken : {r : Listed} {k : ℕ} {l : List ℕ} {to : ℕ} → Lists (drop (at + 1) s) r → r.reading ≡ BadText k → Takes (RestSays 0 s at) l to l Bad
+  pub no_tree_taken : {r : Result Tree ℕ} {l : List ℕ} {to : ℕ} → Lists (drop (at + 1) s) r → None ≡ result_ok r → Takes (RestSays 0 s at) l to l None
   no_tree_taken (lists t x) e = let z : ◌≡◌ {A = ℕ} 0 1 = cc in absurd (omega arith)
   no_tree_taken (lists_none k x) e = not_taken (λ b y. let z = tree_said b y in x.no_reading z.tree z.reads) refl
 
   pub tree_taken :
-      {r : Listed} {count deep n : ℕ} {l m : List ℕ} {to next : ℕ} {b : Bool} → byte_at s at ≡ space → Treed (drop (at + 1) s) r count deep →
-      n ≡ min count places → Put (bytes_of (0 ∷ take n r.nodes)) l to m next → b ≡ leb count most_nodes && leb deep most_deep →
-      Takes (RestSays 0 s at) l to m (BlockTaken next b)
-  tree_taken {r = r} {count = count} {n = n} {l = l} {m = m} {to = to} {next = next} {b = b} e x f p g =
+      {r : Tree} {n : ℕ} {l m : List ℕ} {to next : ℕ} {b : Bool} → byte_at s at ≡ space → Treed (drop (at + 1) s) r →
+      n ≡ min r.count places → Put (bytes_of (0 ∷ take n r.nodes)) l to m next → b ≡ leb r.count most_nodes && leb r.deep most_deep →
+      Takes (RestSays 0 s at) l to m (Some (record { next = next; small = b }))
+  tree_taken {r = r} {n = n} {l = l} {m = m} {to = to} {next = next} {b = b} e x f p g =
       let t = x.tree in
       let i : n ≡ min (nodes t) places = rw (← x.counted) f in
       let k : small (tree_block t) ≡ b = and-true (leb (nodes t) most_nodes && leb (depth t) most_deep) ∙ rw (← x.counted, ← x.measured) (sym g) in

@@ -1,6 +1,6 @@
 -- What holds of both ways of a choice holds of the choice; what is on is not off; two numbers by their order; two tests that both come out; and a test of every
 -- element, on a walk from the front.
-use mathlib.Core.Path.{◌≡◌, refl, sym}
+use mathlib.Core.Path.{◌≡◌, refl, sym, ap}
 use mathlib.Core.Bool.{Bool, true, false, ◌&&◌}
 use mathlib.Core.Logic.{◌⊎◌, inl, inr}
 use mathlib.Core.List.{List}
@@ -25,6 +25,10 @@ when_case P false f g x y = y refl
 
 pub never : {A : Type 0} → true ≡ false → A
 never e = let z : ◌≡◌ {A = ℕ} 0 1 = cc in absurd (omega arith)
+
+-- two pairs are equal in both their parts
+pub pairs : {A B : Type 0} {a c : A} {b d : B} → ◌≡◌ {A = A × B} (a, b) (c, d) → (a ≡ c) × (b ≡ d)
+pairs {A} {B} e = (ap (λ (p : A × B). p.0) e, ap (λ (p : A × B). p.1) e)
 
 pub le_or_lt : (a b : ℕ) → (a ≤ b) ⊎ (b < a)
 le_or_lt a b = go (leb a b) refl

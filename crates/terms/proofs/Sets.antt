@@ -23,7 +23,7 @@ module _ {A : Type 0} where
   sets_out (v ∷ vs) l i h = rw (set_out l i v h) (sets_out vs l (suc i) (omega arith))
 
   -- an element before them
-  set_sets : (vs l : List A) (i j : ℕ) (a : A) → i < j → set (sets l j vs) i a ≡ sets (set l i a) j vs
+  pub set_sets : (vs l : List A) (i j : ℕ) (a : A) → i < j → set (sets l j vs) i a ≡ sets (set l i a) j vs
   set_sets [] l i j a h = refl
   set_sets (v ∷ vs) l i j a h = set_sets vs (set l j v) i (suc j) a (omega arith) ∙ rw (set_comm l j i v a (λ e. omega arith))
 

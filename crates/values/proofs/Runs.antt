@@ -1,14 +1,14 @@
 -- Digits from a place on, one more or no more, as the code looks at them; how large their number can be, and how many digits a number has. Assumes
 -- nothing.
 use Prim.Native.Nat.{ℕ, zero, suc, ◌+◌, ◌*◌, ◌-◌, ◌/◌, ◌^◌, ◌<◌, ◌≤◌}
-use mathlib.Core.Path.{◌≡◌}
-use mathlib.Core.Bool.{true}
+use mathlib.Core.Path.{◌≡◌, refl, ap, ◌∙◌}
+use mathlib.Core.Bool.{true, false}
 use mathlib.Core.List.{List}
 use native.Mathlib.Nat.{pow-suc, pow-le-pow_right, one-le-pow}
 use native.Mathlib.Omega.{arith}
 use lib.ListN.{length, length-append}
 use lib.Dec.{leb}
-use borrow.Author.Tests.{le-leb, lt-leb, leb-true}
+use borrow.Author.Tests.{leb-true}
 use Rattle.terms.proofs.Choice.{pick_case, both}
 use Rattle.wire.specs.Number.{byte_at}
 use Rattle.grammar.specs.Machine.{is_digit}
@@ -32,21 +32,17 @@ module _ (s : List ℕ) (at left c n : ℕ) where
   ends h = let e : left ≡ 0 = omega arith in rw e
 
   module _ (more : 0 < left) where
-    pub no_digit : byte_at s at < 48 → run_at left c n s at ≡ record { count = c; number = n }
-    unfolding run_at is_digit
-    no_digit h = let e : left ≡ suc (left - 1) = omega arith in rw (e, lt-leb 48 (byte_at s at) h)
-
-    pub no_digit_high : 57 < byte_at s at → run_at left c n s at ≡ record { count = c; number = n }
-    unfolding run_at is_digit
-    no_digit_high h =
-        let e : left ≡ suc (left - 1) = omega arith in
-        rw (e, le-leb 48 (byte_at s at) (omega arith), lt-leb (byte_at s at) 57 h)
+    pub no_digit : is_digit (byte_at s at) ≡ false → run_at left c n s at ≡ record { count = c; number = n }
+    unfolding run_at
+    no_digit h = let e : left ≡ suc (left - 1) = omega arith in rw (e, h)
 
     pub goes_on :
-        {k v : ℕ} → 48 ≤ byte_at s at → byte_at s at ≤ 57 → left ≡ suc k → v ≡ 10 * n + (byte_at s at - 48) →
-        run_at left c n s at ≡ run_at k (c + 1) v s (at + 1)
-    unfolding run_at is_digit
-    goes_on low high e f = rw (e, le-leb 48 (byte_at s at) low, le-leb (byte_at s at) 57 high, ← f)
+        {v : ℕ} → is_digit (byte_at s at) ≡ true → v ≡ 10 * n + (byte_at s at - 48) →
+        run_at left c n s at ≡ run_at (left - 1) (c + 1) v s (at + 1)
+    unfolding run_at
+    goes_on digit f =
+        let e : left ≡ suc (left - 1) = omega arith in
+        ap (λ (k : ℕ). run_at k c n s at) e ∙ rw (digit, ← f) refl
 
 -- what is read so far is no more than the whole, and the whole has no more digits than are looked at
 pub number_grows : (left c n : ℕ) (s : List ℕ) (at : ℕ) → n ≤ (run_at left c n s at).number

@@ -1,19 +1,26 @@
 -- What stands at a place of a line as a value (ours; Values says what is good).
-use Rattle.std.specs.Prelude.{ℕ, zero, suc, ◌+◌, ◌*◌, ◌-◌, ◌&&◌, List, length, get_or, leb, eqb}
+use Rattle.std.specs.Prelude.{ℕ, zero, suc, ◌+◌, ◌*◌, ◌-◌, ◌&&◌, List, length, get_or, leb, eqb, Option, None, Some}
 use Rattle.terms.specs.Choice.{pick}
 use Rattle.wire.specs.Number.{byte_at}
 use Rattle.filling.specs.Filling.{decimal}
 use Rattle.numbers.specs.Types.{pin, word_pin, limits}
 use Rattle.grammar.specs.Machine.{is_digit}
-use Rattle.spelling.specs.declared.Digits.{Digits}
-use Rattle.spelling.specs.declared.Digits.TheVariants.{Got as DigitsGot, Bad as DigitsBad}
-use Rattle.spelling.specs.declared.Named.{Named}
-use Rattle.spelling.specs.declared.Named.TheVariants.{Bit, NoName}
+use Rattle.spelling.specs.Spelling.{Digits}
+use Rattle.spelling.specs.Spelling.{Got as DigitsGot, Bad as DigitsBad}
+use Rattle.spelling.specs.Spelling.{Named}
+use Rattle.spelling.specs.Spelling.{Bit, NoName}
 use Rattle.spelling.specs.Spelling.{digits_at, name_at}
 use Rattle.values.specs.declared.Run.{Run}
-use Rattle.values.specs.declared.Value.{Value}
-use Rattle.values.specs.declared.Value.TheVariants.{Got, Bad}
 use Rattle.values.specs.Values.{minus, letter_a, letter_w, constant_bias, bias_of}
+
+-- a field's number as it is carried and the place behind its text, or no value; and how the code answers it
+pub data Value : Type 0 where
+  Got : ℕ → ℕ → Value
+  Bad : Value
+
+abbrev pub as_value : Value → Option (ℕ × ℕ)
+as_value (Got n next) = Some (n, next)
+as_value Bad = None
 
 -- how many digits stand from a place on, and their number; c of them, of number n, stand before it, and no more than `left` are looked at
 unfoldable pub run_at : ℕ → ℕ → ℕ → List ℕ → ℕ → Run

@@ -1,9 +1,6 @@
--- The bytes are counted up, and the text's buffer keeps its length.
-use Rattle.std.proofs.Common.{◌≡◌, length, ◌-◌}
+-- `formula_cases::cases`: a line takes some of what is left of the file.
+use Rattle.std.proofs.Common.{length}
 use Rattle.formula_cases.proofs.cases.Given as goal
 
-abbrev pub invariant-loop-at : goal.invariant-loop-at
-invariant-loop-at g l = length l.text ≡ length l.initial.text
-
-abbrev pub decreases-loop-at : goal.decreases-loop-at
-decreases-loop-at g l = length l.all - l.at
+abbrev pub decreases-loop-end : goal.decreases-loop-end
+decreases-loop-end g l = length l.left

@@ -4,8 +4,8 @@ use lib.ListN.{length}
 use Rattle.gathering.proofs.Gathers.{Turn}
 use Rattle.gathering.proofs.gather.Given as goal
 
-abbrev pub invariant-loop-last : goal.invariant-loop-last
-invariant-loop-last l = Turn l.text l.room l.at l.i l.to l.kept
+abbrev pub invariant-loop-line : goal.invariant-loop-line
+invariant-loop-line l = Turn l.text l.room l.at l.i l.to l.kept
 
-abbrev pub decreases-loop-last : goal.decreases-loop-last
-decreases-loop-last l = length l.text - l.at
+abbrev pub decreases-loop-line : goal.decreases-loop-line
+decreases-loop-line l = length l.text - l.at

@@ -1,12 +1,9 @@
 -- `lining::find_kind` meets its contract. The loop's invariant: the first kind from k on is the first of all.
-use Prim.Native.Nat.{◌-◌, ◌≤◌}
+use Prim.Native.Nat.{◌-◌}
 use mathlib.Core.Path.{◌≡◌}
 use Rattle.numbers.specs.Types.{kind_count}
 use Rattle.layout.specs.Heads.{kind_from, kind_at}
 use Rattle.lining.proofs.find_kind.Given as goal
 
 abbrev pub invariant-loop-k : goal.invariant-loop-k
-invariant-loop-k l = (l.k ≤ kind_count) × (kind_from (kind_count - l.k) l.k l.line l.at ≡ kind_at l.line l.at)
-
-abbrev pub decreases-loop-k : goal.decreases-loop-k
-decreases-loop-k l = kind_count - l.k
+invariant-loop-k l = kind_from (kind_count - l.k) l.k l.line l.at ≡ kind_at l.line l.at

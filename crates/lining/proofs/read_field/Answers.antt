@@ -65,6 +65,7 @@ returns c =
       sym c.is_named.ensures ∙ c.if-is_named.false,
       may_be_left (field_of a.kind a.i).left_out_as a.at (λ e. c.if-v.false (c.left_out_of-v.ensures ∙ e)),
       ← c.left_out_of-v.ensures,
+      c.from.ensures,
     )
 
 pub name_of-name-requires : goal.name_of-name-requires

@@ -1,5 +1,5 @@
 -- `lining::read_fields` meets its contract. The loop's invariant: what is found from field i on, with the numbers so far before it, is what is found of all.
-use Prim.Native.Nat.{ℕ, ◌-◌, ◌≤◌}
+use Prim.Native.Nat.{ℕ, ◌≤◌}
 use mathlib.Core.Path.{◌≡◌}
 use mathlib.Core.List.{List}
 use lib.ListN.{length, drop}
@@ -12,13 +12,9 @@ use Rattle.lining.proofs.read_fields.Given as goal
 pub record Going (fs : List Field) (s : List ℕ) (start count : ℕ) (numbers : List ℕ) (at i : ℕ) : Type 0 where
   pub whole : count ≡ length fs
   pub few : count ≤ 5
-  pub passed : i ≤ count
   pub places : length numbers ≡ 5
   pub inside : at ≤ length s
   pub same : onto numbers i (fields_from (drop i fs) s at) ≡ as_row (fields_from fs s start)
 
 abbrev pub invariant-loop-i : goal.invariant-loop-i
 invariant-loop-i l = Going (fields_of l.kind) l.line l.start l.count l.numbers l.at l.i
-
-abbrev pub decreases-loop-i : goal.decreases-loop-i
-decreases-loop-i l = l.count - l.i

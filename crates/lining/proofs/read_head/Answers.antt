@@ -1,61 +1,72 @@
 -- `lining::read_head` meets its contract: the name of the block, a space or more, and the letters of a kind.
 use Prim.Native.Nat.{◌+◌}
-use mathlib.Core.Path.{sym, ◌∙◌}
 use native.Mathlib.Omega.{arith}
 use borrow.Author.Tests.{le-ltb, lt-ltb, eq-eqb, ne_eqb}
-use Rattle.layout.specs.Heads.{letters_at, heading_of}
-use Rattle.lining.proofs.Finding.{letters_end}
+use Rattle.spelling.specs.Spelling.{name_at}
+use Rattle.spelling.proofs.Names.{name_ok, name_off}
+use Rattle.layout.specs.Heads.{kind_at, letters_at, heading_of}
+use Rattle.lining.proofs.Finding.{kind_found, kind_lost, letters_end}
 use Rattle.lining.proofs.read_head.Goals as goal
+use Rattle.lining.proofs.read_head.Goals.{then-r-from-via-then-r-from, then-r-from-via-else-r-from+then-at-next}
 
-pub returns-then-r-i : goal.returns-then-r-i
+pub returns-in_err-r : goal.returns-in_err-r
 unfolding heading_of
-returns-then-r-i c =
-    let i = c.args.i in rw (← c.skip_spaces.ensures, sym c.read_name-n.ensures ∙ c.in-Bit.is, ne_eqb c.in-Bit.r (34 + i) c.if-r-i.true)
+returns-in_err-r c =
+    let n = name_off (name_at c.args.line.now c.skip_spaces.result) c.read_name.ensures c.in_err-r.ensures.value in
+    rw c.from_residual.ensures (rw (← c.skip_spaces.ensures, n.1))
 
-pub returns-then-at-next : goal.returns-then-at-next
+pub returns-then-r-from : goal.returns-then-r-from
 unfolding heading_of
-returns-then-at-next c =
-    rw (
-      ← c.skip_spaces.ensures,
-      sym c.read_name-n.ensures ∙ c.in-Bit.is,
-      ← c.skip_spaces-at.ensures,
-      eq-eqb _ _ c.if-r-i.false,
-      le-ltb _ _ c.if-at-next.true,
-    )
+returns-then-r-from c =
+    let i = c.args.i in
+    let r = c.in_ok-r.r in
+    let from = c.from.ensures in
+    let n = name_ok (name_at c.args.line.now c.skip_spaces.result) c.read_name.ensures c.in_ok-r.ensures.value in
+    elim c.then-r-from.branch [
+      then-r-from-via-then-r-from w ↦ rw (← c.skip_spaces.ensures, n, ne_eqb r (34 + i) (λ e. omega (arith, w.if-r-from.true)))
+      | then-r-from-via-else-r-from+then-at-next w ↦
+          rw (← c.skip_spaces.ensures, n, ← c.skip_spaces-at.ensures, eq-eqb r (34 + i) (omega arith), le-ltb _ _ w.if-at-next.true)
+    ]
 
-pub returns-then-k-ge-KINDS : goal.returns-then-k-ge-KINDS
+pub returns-in_err-k : goal.returns-in_err-k
 unfolding heading_of letters_at
-returns-then-k-ge-KINDS c =
-    rw (
+returns-in_err-k c =
+    let s = c.args.line.now in
+    let i = c.args.i in
+    let from = c.from.ensures in
+    let n = name_ok (name_at s c.skip_spaces.result) c.read_name.ensures c.in_ok-r.ensures.value in
+    let k = kind_lost (kind_at s c.skip_spaces-at.result) c.in_err-k.ensures in
+    rw c.from_residual-in_err-k.ensures
+    (rw (
       ← c.skip_spaces.ensures,
-      sym c.read_name-n.ensures ∙ c.in-Bit.is,
+      n,
       ← c.skip_spaces-at.ensures,
-      eq-eqb _ _ c.if-r-i.false,
+      eq-eqb c.in_ok-r.r (34 + i) (omega arith),
       lt-ltb _ _ c.if-at-next.false,
-      ← c.find_kind-k.ensures,
-      le-ltb _ _ c.if-k-ge-KINDS.true,
-    )
+      le-ltb (kind_at s c.skip_spaces-at.result) 13 k,
+    ))
 
 pub overflow_add-result : goal.overflow_add-result
 overflow_add-result c =
-    let x = letters_end c.args.line.now c.skip_spaces-at.result c.find_kind-k.result (sym c.find_kind-k.ensures) (omega arith) in
+    let k = kind_found (kind_at c.args.line.now c.skip_spaces-at.result) c.in_ok-k.ensures in
+    let x = letters_end c.args.line.now c.skip_spaces-at.result c.in_ok-k.k k.0 k.1 in
     record { fits = omega (arith, c.word_size.ensures) }
 
-pub returns-in-NoName : goal.returns-in-NoName
-unfolding heading_of
-returns-in-NoName c =
-    rw (← c.skip_spaces.ensures, sym c.read_name-n.ensures ∙ c.in-NoName.is)
-
-pub returns-else-k-ge-KINDS : goal.returns-else-k-ge-KINDS
+pub returns : goal.returns
 unfolding heading_of letters_at
-returns-else-k-ge-KINDS c =
+returns c =
+    let s = c.args.line.now in
+    let i = c.args.i in
+    let from = c.from.ensures in
+    let n = name_ok (name_at s c.skip_spaces.result) c.read_name.ensures c.in_ok-r.ensures.value in
+    let k = kind_found (kind_at s c.skip_spaces-at.result) c.in_ok-k.ensures in
     rw (
       ← c.skip_spaces.ensures,
-      sym c.read_name-n.ensures ∙ c.in-Bit.is,
+      n,
       ← c.skip_spaces-at.ensures,
-      eq-eqb _ _ c.if-r-i.false,
+      eq-eqb c.in_ok-r.r (34 + i) (omega arith),
       lt-ltb _ _ c.if-at-next.false,
-      ← c.find_kind-k.ensures,
-      lt-ltb _ _ c.if-k-ge-KINDS.false,
+      k.0,
+      lt-ltb c.in_ok-k.k 13 k.1,
       ← c.word_size.ensures,
     )

@@ -1,9 +1,6 @@
--- Each case takes a byte or more of what is left, and no more than there are.
-use Rattle.std.proofs.Common.{length, ◌-◌, ◌≤◌}
+-- `listing_cases::cases`: a case takes some of what is left.
+use Rattle.std.proofs.Common.{length}
 use Rattle.listing_cases.proofs.cases.Given as goal
 
-abbrev pub invariant-loop-at : goal.invariant-loop-at
-invariant-loop-at g l = l.at ≤ length l.all
-
-abbrev pub decreases-loop-at : goal.decreases-loop-at
-decreases-loop-at g l = length l.all - l.at
+abbrev pub decreases-loop-case : goal.decreases-loop-case
+decreases-loop-case g l = length l.left

@@ -1,28 +1,15 @@
-use mathlib.Core.Path.{◌≡◌, refl, sym, ◌∙◌}
-use mathlib.Core.List.{◌∷◌}
-use native.Mathlib.Omega.{arith}
-use borrow.Author.Rules.{rules}
-use lib.ListN.{take, drop, length-set}
-use Rattle.terms.proofs.Sets.{sets_out}
-use Rattle.nodelist.proofs.Moving.{one_up}
+-- `nodelist::insert` meets its contract.
+use Rattle.std.proofs.Common.{◌≡◌, ◌∙◌, ap, arith, ℕ, List, ◌+◌, ◌-◌, drop}
+use Rattle.std.proofs.Math.ListN.{set}
+use Rattle.std.proofs.Math.Seq.{paste}
+use Rattle.nodelist.proofs.Moving.{moved}
 use Rattle.nodelist.proofs.insert.Goals as goal
 
-pub loop-left-init : goal.loop-left-init
-loop-left-init c =
-    record { size = search rules; same = refl }
-
-pub returns-then-at-ge-PLACES : goal.returns-then-at-ge-PLACES
-returns-then-at-ge-PLACES c =
-    let l = c.loop-left in sym (sets_out (l.last ∷ take l.left (drop l.at l.nodes)) l.nodes l.at (omega (arith, l.invariant.size))) ∙ l.invariant.same
-
-pub loop-left-preserved : goal.loop-left-preserved
-loop-left-preserved c =
-    let l = c.loop-left in record {
-      size = simp length-set l.invariant.size;
-      same = one_up l.nodes l.at l.left l.last (omega (arith, l.invariant.size)) c.loop-left-test.true ∙ l.invariant.same;
-    }
-
-pub returns : goal.returns
-returns c =
-    let l = c.loop-left in let e : l.left ≡ 0 = omega arith in
-    c.put.ensures ∙ (rw e at l.invariant.same)
+pub returns-then-from-lt-PLACES : goal.returns-then-from-lt-PLACES
+returns-then-from-lt-PLACES c =
+    let l = c.args.nodes.now in
+    let from = c.args.from in
+    let n = c.min.result in
+    let e : from + n - from ≡ n = omega arith in
+    ap (λ (k : List ℕ). set k from c.args.number) (c.copy_within.ensures.after ∙ ap (λ (k : ℕ). paste l (from + 1) (drop from l) k) e)
+    ∙ moved l from c.args.count n c.args.number (omega (arith, c.told-nodes, c.min.ensures)) (omega (arith, c.min.ensures)) (λ h. omega (arith, c.told-nodes, c.min.ensures))

@@ -23,12 +23,12 @@ decreases-part l = 11 * (length l.text.now - l.at)
 abbrev pub decreases-xor_list : goal.decreases-xor_list
 decreases-xor_list l = 11 * (length l.text.now - l.at) + 6
 
-abbrev pub invariant-list-loop-k : goal.invariant-list-loop-k
-invariant-list-loop-k l =
-    Going l.text l.around (level_of l.level) (level_of (l.level + 1)) l.at l.first l.initial.nodes l.initial.n l.nodes l.p l.n l.d
+abbrev pub invariant-list-loop-op : goal.invariant-list-loop-op
+invariant-list-loop-op l =
+    Going l.text l.around (level_of l.level) (level_of (l.level + 1)) l.at l.first l.initial.nodes l.initial.whole.count l.nodes l.whole.next l.whole.count l.whole.deep
 
-abbrev pub decreases-list-loop-k : goal.decreases-list-loop-k
-decreases-list-loop-k l = length l.text - l.p
+abbrev pub decreases-list-loop-op : goal.decreases-list-loop-op
+decreases-list-loop-op l = length l.text - l.whole.next
 
 abbrev pub invariant-part-loop-b : goal.invariant-part-loop-b
 invariant-part-loop-b l = Nots l.text l.around l.at l.first l.initial.nodes l.nodes l.p l.nots l.b

@@ -1,16 +1,15 @@
 -- `parsing::list_nodes` meets its contract.
+use Rattle.std.proofs.lemmas.Result.{err_from_is_err_and}
 use Rattle.parsing.proofs.Wholes.{lists_bad, lists_more, lists_all}
 use Rattle.parsing.proofs.list_nodes.Goals as goal
 
-pub returns-then-next-text : goal.returns-then-next-text
-returns-then-next-text c =
-    let s = c.args.text.now in let x = c.in-Read.ensures in
-    lists_more s x c.none_listed-then-next-text.ensures c.if-next-text.true
+pub returns-in_err-whole : goal.returns-in_err-whole
+returns-in_err-whole c =
+    let p = err_from_is_err_and c.from_residual.result c.from_residual.ensures.1 in
+    rw (p.1, p.2) (lists_bad c.args.text.now c.in_err-whole.ensures)
 
-pub returns-in-Bad : goal.returns-in-Bad
-returns-in-Bad c =
-    let s = c.args.text.now in lists_bad s c.none_listed.ensures (c.in-Bad.ensures)
+pub returns-then-whole-text : goal.returns-then-whole-text
+returns-then-whole-text c = lists_more c.args.text.now c.in_ok-whole.ensures c.if-whole-text.true
 
-pub returns-else-next-text : goal.returns-else-next-text
-returns-else-next-text c =
-    let s = c.args.text.now in lists_all s c.in-Read.ensures c.if-next-text.false
+pub returns : goal.returns
+returns c = lists_all c.args.text.now c.in_ok-whole.ensures c.if-whole-text.false

@@ -1,5 +1,5 @@
 -- `spelling::read_digits` meets its contract. The loop's invariant: what is still to come makes the whole number.
-use Prim.Native.Nat.{ℕ, ◌≤◌}
+use Prim.Native.Nat.{ℕ, ◌-◌, ◌≤◌}
 use mathlib.Core.Path.{◌≡◌}
 use mathlib.Core.List.{List}
 use Rattle.spelling.specs.Spelling.{digits_at}
@@ -10,8 +10,5 @@ pub record Going (s : List ℕ) (at count least most p n left : ℕ) : Type 0 wh
   pub few : left ≤ 3
   pub small : n ≤ 999
 
-abbrev pub invariant-loop-left : goal.invariant-loop-left
-invariant-loop-left l = Going l.text l.at l.count l.least l.most l.p l.n l.left
-
-abbrev pub decreases-loop-left : goal.decreases-loop-left
-decreases-loop-left l = l.left
+abbrev pub invariant-loop-i : goal.invariant-loop-i
+invariant-loop-i l = Going l.text l.at l.count l.least l.most l.p l.n (l.count - l.i)

@@ -1,41 +1,36 @@
 -- `values::read_word` meets its contract.
-use mathlib.Core.Path.{sym, ◌∙◌}
+use Rattle.std.proofs.Common.{◌+◌, ◌-◌}
+use mathlib.Core.Path.{sym, ap, ◌∙◌}
 use native.Mathlib.Omega.{arith}
-use borrow.Author.Tests.{ne_eqb}
+use Rattle.spelling.specs.Spelling.{digits_at}
 use Rattle.values.specs.Reading.{word_at}
-use Rattle.values.proofs.Ranges.{digits_least}
+use Rattle.values.proofs.Ranges.{digits_least, digits_ok, digits_none}
 use Rattle.values.proofs.read_word.Goals as goal
 
 pub overflow_sub-result : goal.overflow_sub-result
 overflow_sub-result c =
-    omega (arith, digits_least _ _ _ _ _ (sym c.read_digits-d.ensures ∙ c.in-Got.is))
+    omega (arith, digits_least _ _ _ _ _ (digits_ok (digits_at 2 0 1 8 c.args.text.now (c.args.at + 1)) c.read_digits.ensures c.in_ok-n-in-65.ensures.value))
 
-pub returns-in-Bad : goal.returns-in-Bad
+pub returns-in_err-n-in-65 : goal.returns-in_err-n-in-65
 unfolding word_at
-returns-in-Bad c =
-    rw (sym c.byte_at-b.ensures ∙ c.if-b-eq65.true, sym c.read_digits-d.ensures ∙ c.in-Bad.is)
+returns-in_err-n-in-65 c =
+    let bad = digits_none (digits_at 2 0 1 8 c.args.text.now (c.args.at + 1)) c.read_digits.ensures c.in_err-n-in-65.ensures.value in
+    rw c.from_residual.ensures (rw (sym c.byte_at.ensures ∙ c.in-65.is, bad.0))
 
-pub returns-in-Got : goal.returns-in-Got
+pub returns-in_ok-n-in-65 : goal.returns-in_ok-n-in-65
 unfolding word_at
-returns-in-Got c =
-    rw (sym c.byte_at-b.ensures ∙ c.if-b-eq65.true, sym c.read_digits-d.ensures ∙ c.in-Got.is)
+returns-in_ok-n-in-65 c =
+    let got = digits_ok (digits_at 2 0 1 8 c.args.text.now (c.args.at + 1)) c.read_digits.ensures c.in_ok-n-in-65.ensures.value in
+    rw (sym c.byte_at.ensures ∙ c.in-65.is, got, ← c.from.ensures)
 
-pub returns-in-Bad-d : goal.returns-in-Bad-d
+pub returns-in_err-n-in-87 : goal.returns-in_err-n-in-87
 unfolding word_at
-returns-in-Bad-d c =
-    rw (sym c.byte_at-b.ensures ∙ c.if-b-eq87.true, sym c.read_digits-d-then-b-eq87.ensures ∙ c.in-Bad-d.is)
+returns-in_err-n-in-87 c =
+    let bad = digits_none (digits_at 3 0 0 199 c.args.text.now (c.args.at + 1)) c.read_digits-in-87.ensures c.in_err-n-in-87.ensures.value in
+    rw c.from_residual-in_err-n-in-87.ensures (rw (sym c.byte_at.ensures ∙ c.in-87.is, bad.1))
 
-pub returns-in-Got-d : goal.returns-in-Got-d
+pub returns-in_ok-n-in-87 : goal.returns-in_ok-n-in-87
 unfolding word_at
-returns-in-Got-d c =
-    rw (sym c.byte_at-b.ensures ∙ c.if-b-eq87.true, sym c.read_digits-d-then-b-eq87.ensures ∙ c.in-Got-d.is)
-
-pub returns : goal.returns
-unfolding word_at
-returns c =
-    rw (
-      ← c.byte_at-b.ensures,
-      ne_eqb _ _ c.if-b-eq65.false,
-      ne_eqb _ _ c.if-b-eq87.false,
-    )
-    c.read_signed.ensures
+returns-in_ok-n-in-87 c =
+    let got = digits_ok (digits_at 3 0 0 199 c.args.text.now (c.args.at + 1)) c.read_digits-in-87.ensures c.in_ok-n-in-87.ensures.value in
+    rw (sym c.byte_at.ensures ∙ c.in-87.is, got, ← c.from-in-87.ensures)

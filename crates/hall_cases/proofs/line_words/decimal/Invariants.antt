@@ -1,9 +1,0 @@
--- The place moves on by one byte, and no sum is made here.
-use Rattle.std.proofs.Common.{◌-◌, ◌≤◌, length}
-use Rattle.hall_cases.proofs.line_words.decimal.Given as goal
-
-abbrev pub invariant-loop-at : goal.invariant-loop-at
-invariant-loop-at l = l.at ≤ length l.text
-
-abbrev pub decreases-loop-at : goal.decreases-loop-at
-decreases-loop-at l = length l.text - l.at
