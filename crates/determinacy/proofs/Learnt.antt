@@ -73,6 +73,7 @@ use Rattle.expression.proofs.eval.Reads as expression_eval
 use Rattle.rules.proofs.apply.Reads as rules_apply
 use Rattle.running.proofs.turn.Reads as running_turn
 use Rattle.turns.proofs.turns.Reads as turns_turns
+use Rattle.trial.proofs.refused.Reads as trial_refused
 use Rattle.trial.proofs.try_program.Reads as trial_try_program
 use Rattle.scanning.proofs.run.Reads as scanning_run
 use Rattle.calls.proofs.refuse_after.Reads as calls_refuse_after
@@ -188,6 +189,7 @@ pub record Determinacy : Type 2 where
   pub rules_apply : Determined rules_apply.Learnt
   pub running_turn : DeterminedWith (λ κ u. u.1.1.1.1.1.1.1.0.now) running_turn.Learnt
   pub turns_turns : DeterminedWith (λ κ u. arrays_from u.1.1.1.1.1) turns_turns.Learnt
+  pub trial_refused : Determined trial_refused.Learnt
   pub trial_try_program : DeterminedWith (λ κ u. arrays_from u.1.1.1.1) trial_try_program.Learnt
   pub scanning_run : DeterminedWith (λ κ u. columns_from u.1.1.1.1) scanning_run.Learnt
   pub calls_refuse_after : Determined calls_refuse_after.Learnt
@@ -297,6 +299,7 @@ all =
       rules_apply = λ κ a x y u v h k. cc;
       running_turn = λ κ a x y u v h k. (one_turn _ _ (h.0 ∙ sym k.0), h.1 ∙ sym k.1);
       turns_turns = λ κ a x y u v h k. (h.0 ∙ sym k.0, h.1 ∙ sym k.1);
+      trial_refused = λ κ a x y u v h k. cc;
       trial_try_program = λ κ a x y u v h k. (h.0 ∙ sym k.0, h.1 ∙ sym k.1);
       scanning_run = λ κ a x y u v h k. (h.0 ∙ sym k.0, h.1 ∙ sym k.1);
       calls_refuse_after = λ κ a x y u v h k. cc;

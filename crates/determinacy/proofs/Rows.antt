@@ -71,6 +71,7 @@ use Rattle.expression.specs.contracts.eval as expression_eval
 use Rattle.rules.specs.contracts.apply as rules_apply
 use Rattle.running.specs.contracts.turn as running_turn
 use Rattle.turns.specs.contracts.turns as turns_turns
+use Rattle.trial.specs.contracts.refused as trial_refused
 use Rattle.trial.specs.contracts.try_program as trial_try_program
 use Rattle.scanning.specs.contracts.run as scanning_run
 use Rattle.calls.specs.contracts.refuse_after as calls_refuse_after
@@ -304,6 +305,9 @@ module _ {M : Type 1} {𝓤 : Ura M} (𝓛 : Logic 𝓤) where
 
   pub turns_turns_row : ent 𝓤 (emp 𝓤) (DeterminedWith 𝓛 turns_turns.ended (turns_turns.clauses 𝓛) (λ κ u. arrays_from u.1.1.1.1.1))
   turns_turns_row = determined_with 𝓛 turns_turns.ended (turns_turns.clauses 𝓛) (λ κ u. arrays_from u.1.1.1.1.1) (λ κs a g x y u v. four 𝓤 _ _ _ _ _ (λ h h' k k'. (h ∙ sym k, h' ∙ sym k')))
+
+  pub trial_refused_row : ent 𝓤 (emp 𝓤) (Determined 𝓛 trial_refused.ended (trial_refused.clauses 𝓛))
+  trial_refused_row = determined 𝓛 trial_refused.ended (trial_refused.clauses 𝓛) (λ κs a g x y u v. two 𝓤 _ _ _ (λ h k. cc))
 
   pub trial_try_program_row : ent 𝓤 (emp 𝓤) (DeterminedWith 𝓛 trial_try_program.ended (trial_try_program.clauses 𝓛) (λ κ u. arrays_from u.1.1.1.1))
   trial_try_program_row = determined_with 𝓛 trial_try_program.ended (trial_try_program.clauses 𝓛) (λ κ u. arrays_from u.1.1.1.1) (λ κs a g x y u v. four 𝓤 _ _ _ _ _ (λ h h' k k'. (h ∙ sym k, h' ∙ sym k')))

@@ -80,6 +80,7 @@ use Rattle.expression.specs.contracts.eval as expression_eval
 use Rattle.rules.specs.contracts.apply as rules_apply
 use Rattle.running.specs.contracts.turn as running_turn
 use Rattle.turns.specs.contracts.turns as turns_turns
+use Rattle.trial.specs.contracts.refused as trial_refused
 use Rattle.trial.specs.contracts.try_program as trial_try_program
 use Rattle.scanning.specs.contracts.run as scanning_run
 use Rattle.calls.specs.contracts.refuse_after as calls_refuse_after
@@ -242,6 +243,7 @@ module _ {M : Type 1} {𝓤 : Ura M} (𝓛 : Logic 𝓤) where
       ∧ₛ Determined rules_apply.ended (rules_apply.clauses 𝓛)
       ∧ₛ DeterminedWith running_turn.ended (running_turn.clauses 𝓛) (λ κ u. u.1.1.1.1.1.1.1.0.now)
       ∧ₛ DeterminedWith turns_turns.ended (turns_turns.clauses 𝓛) (λ κ u. arrays_from u.1.1.1.1.1)
+      ∧ₛ Determined trial_refused.ended (trial_refused.clauses 𝓛)
       ∧ₛ DeterminedWith trial_try_program.ended (trial_try_program.clauses 𝓛) (λ κ u. arrays_from u.1.1.1.1)
       ∧ₛ DeterminedWith scanning_run.ended (scanning_run.clauses 𝓛) (λ κ u. columns_from u.1.1.1.1)
       ∧ₛ Determined calls_refuse_after.ended (calls_refuse_after.clauses 𝓛)

@@ -20,6 +20,9 @@ abbrev pub to_end : List ℕ → Read (List Bit) → Read (List Bit)
 to_end s r = and_then r (λ rs at. end_at rs s at)
 
 -- the whole program: whether it is accepted, its steps and its alarm word
+abbrev pub no_trial : Option Trial
+no_trial = None
+
 abbrev pub trial_of : ℕ → Arrays → Read Program → Option Trial
 trial_of e a (got p end) =
     pick (passes_trial p.blocks)
@@ -27,5 +30,5 @@ trial_of e a (got p end) =
       steps = turn_steps e p.blocks (length p.blocks) a;
       alarms = packed (map (bit_in (turns_to e p.blocks (length p.blocks) a).bits) p.alarms);
     }))
-    None
-trial_of e a (fault n at) = None
+    no_trial
+trial_of e a (fault n at) = no_trial

@@ -7,7 +7,7 @@ ghost use Rattle.std.specs.Prelude.{◌++◌, ◌≡◌, ◌≤◌, drop, replic
 ghost use Rattle.program.specs.Program.{after_count};
 ghost use Rattle.program.specs.Trial.{first_blocks};
 ghost use Rattle.turns.specs.Arrays.{arrays_before, arrays_after, turned_while};
-ghost use Rattle.trial.specs.Trial.{trial_of};
+ghost use Rattle.trial.specs.Trial.{no_trial, trial_of};
 
 // Marks the first n blocks as being there.
 fn mark_first(n: u32, marks: &mut [u8; 200])
@@ -22,6 +22,14 @@ fn mark_first(n: u32, marks: &mut [u8; 200])
 pub struct Trial {
     pub steps: u32,
     pub alarms: u32,
+}
+
+// The trial of a program that is not accepted.
+// Kept: what may not change, it is public and `Determinacy` has a row of it.
+pub fn refused() -> Option<Trial>
+    ensures { result ≡ no_trial }
+{
+    None
 }
 
 // Tries a program whose n blocks stand from `start` on; none if it is not accepted.

@@ -15,7 +15,7 @@ use denote.Triple.Entry.{on_entry}
 use denote.Triple.Walked.{walk_of, ends_at}
 use Rattle.determinacy.specs.Determinacy.{Determinacy}
 use Rattle.determinacy.proofs.Loose.{loose}
-use Rattle.determinacy.proofs.Rows.{terms_signed_row, terms_hold_row, terms_refusal_number_row, wire_number_row, place_fresh_row, place_pin_row, place_first_rises_row, place_first_falls_row, place_second_rises_row, place_either_differs_row, place_pack_row, switches_bl_row, switches_sr_row, switches_pl_row, switches_al_row, timers_dl_row, timers_os_row, timers_fl_row, counters_cn_row, counters_ud_row, analog_cp_row, analog_og_row, analog_zc_row, analog_st_row, journal_entry_zero_row, journal_rises_row, journal_journal_fresh_row, journal_journal_rise_row, journal_journal_take_row, image_state_fresh_row, image_fresh_in_row, image_journal_in_row, image_put_journal_row, inspection_good_row, inspection_is_late_row, logbook_close_row, logbook_hand_out_row, copies_copy_first_row, loading_load_bits_row, loading_load_words_row, copies_store_words_row, copies_store_outputs_row, numbers_read_number_row, nodes_head_row, nodes_pass_row, spelling_byte_at_row, spelling_skip_spaces_row, spelling_read_name_row, spelling_read_sign_row, nodelist_put_row, nodelist_insert_row, parsing_list_nodes_row, formula_read_formula_row, kinds_memory_of_row, kinds_figure_of_row, kinds_mark_of_row, block_read_row_row, block_read_block_row, program_accept_row, expression_eval_row, rules_apply_row, running_turn_row, turns_turns_row, trial_try_program_row, scanning_run_row, calls_refuse_after_row, calls_refuse_take_row, console_scan_in_row, console_take_in_row, states_put_state_row, states_state_in_row, hall_scan_row, hall_take_row, lanwezik_accept_row, lanwezik_fresh_in_row, lanwezik_scan_in_row, lanwezik_take_in_row, lanwezik_formula_row, text_put_row, text_put_number_row, lines_write_line_row, lines_write_refused_row, lines_write_bad_scan_row, lines_write_bad_program_row, recording_read_scan_row, recording_read_head_row, playback_next_scan_row, playback_open_recording_row, telling_player_fresh_row, telling_ended_row, telling_play_row, feeding_feed_row, feeding_finish_row, reading_told_by_row, reading_move_down_row, keeping_feed_window_row, intake_go_on_row}
+use Rattle.determinacy.proofs.Rows.{terms_signed_row, terms_hold_row, terms_refusal_number_row, wire_number_row, place_fresh_row, place_pin_row, place_first_rises_row, place_first_falls_row, place_second_rises_row, place_either_differs_row, place_pack_row, switches_bl_row, switches_sr_row, switches_pl_row, switches_al_row, timers_dl_row, timers_os_row, timers_fl_row, counters_cn_row, counters_ud_row, analog_cp_row, analog_og_row, analog_zc_row, analog_st_row, journal_entry_zero_row, journal_rises_row, journal_journal_fresh_row, journal_journal_rise_row, journal_journal_take_row, image_state_fresh_row, image_fresh_in_row, image_journal_in_row, image_put_journal_row, inspection_good_row, inspection_is_late_row, logbook_close_row, logbook_hand_out_row, copies_copy_first_row, loading_load_bits_row, loading_load_words_row, copies_store_words_row, copies_store_outputs_row, numbers_read_number_row, nodes_head_row, nodes_pass_row, spelling_byte_at_row, spelling_skip_spaces_row, spelling_read_name_row, spelling_read_sign_row, nodelist_put_row, nodelist_insert_row, parsing_list_nodes_row, formula_read_formula_row, kinds_memory_of_row, kinds_figure_of_row, kinds_mark_of_row, block_read_row_row, block_read_block_row, program_accept_row, expression_eval_row, rules_apply_row, running_turn_row, turns_turns_row, trial_refused_row, trial_try_program_row, scanning_run_row, calls_refuse_after_row, calls_refuse_take_row, console_scan_in_row, console_take_in_row, states_put_state_row, states_state_in_row, hall_scan_row, hall_take_row, lanwezik_accept_row, lanwezik_fresh_in_row, lanwezik_scan_in_row, lanwezik_take_in_row, lanwezik_formula_row, text_put_row, text_put_number_row, lines_write_line_row, lines_write_refused_row, lines_write_bad_scan_row, lines_write_bad_program_row, recording_read_scan_row, recording_read_head_row, playback_next_scan_row, playback_open_recording_row, telling_player_fresh_row, telling_ended_row, telling_play_row, feeding_feed_row, feeding_finish_row, reading_told_by_row, reading_move_down_row, keeping_feed_window_row, intake_go_on_row}
 use Rattle.determinacy.specs.contracts.one_answer as f
 use Rattle.determinacy.proofs.one_answer.Statement.{statement}
 use Rattle.determinacy.proofs.one_answer.Code as code
@@ -86,6 +86,7 @@ module _ {M : Type 1} {𝓤 : Ura M} (𝓛 : Logic 𝓤) where
       (conj_i 𝓤 _ _ (rules_apply_row 𝓛)
       (conj_i 𝓤 _ _ (running_turn_row 𝓛)
       (conj_i 𝓤 _ _ (turns_turns_row 𝓛)
+      (conj_i 𝓤 _ _ (trial_refused_row 𝓛)
       (conj_i 𝓤 _ _ (trial_try_program_row 𝓛)
       (conj_i 𝓤 _ _ (scanning_run_row 𝓛)
       (conj_i 𝓤 _ _ (calls_refuse_after_row 𝓛)
@@ -120,7 +121,7 @@ module _ {M : Type 1} {𝓤 : Ura M} (𝓛 : Logic 𝓤) where
       (conj_i 𝓤 _ _ (reading_move_down_row 𝓛)
       (conj_i 𝓤 _ _ (keeping_feed_window_row 𝓛)
       (conj_i 𝓤 _ _ (intake_go_on_row 𝓛)
-      (loose 𝓛)))))))))))))))))))))))))))))))))))))))))))))))))))))))))))))))))))))))))))))))))))))))))))))))))
+      (loose 𝓛))))))))))))))))))))))))))))))))))))))))))))))))))))))))))))))))))))))))))))))))))))))))))))))))))
 
 pub one_answer_spec : {M : Type 1} → statement M
 one_answer_spec 𝓤 𝓛 𝓜 𝓡 wired =
