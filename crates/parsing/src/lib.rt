@@ -156,7 +156,14 @@ fn list(
     let mut whole = by_level(text, at, around, nodes, first, level + 1)?;
     while let Some((op, behind)) = spelling::read_sign(text, whole.next, level)? {
         nodelist::insert(nodes, first, whole.count, op);
-        let item = by_level(text, behind, around, nodes, first + whole.count + 1, level + 1)?;
+        let item = by_level(
+            text,
+            behind,
+            around,
+            nodes,
+            first + whole.count + 1,
+            level + 1,
+        )?;
         whole = Piece {
             next: item.next,
             count: whole.count + item.count + 1,

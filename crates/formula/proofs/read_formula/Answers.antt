@@ -8,7 +8,7 @@ returns-then-tree c =
     let s = c.args.text.now in
     let x = treed s c.in-Ok.ensures in
     elim c.then-tree.branch [
-      then-tree-via-then-tree w ↦ too_many s x w.if-tree.true c.refuse-then-tree.ensures
+      | then-tree-via-then-tree w ↦ too_many s x w.if-tree.true c.refuse-then-tree.ensures
       | then-tree-via-else-tree+then-tree-2 w ↦ too_deep_lem s x w.if-tree-2.true c.refuse-then-tree.ensures
     ]
 

@@ -16,7 +16,7 @@ overflow_add-p c =
     let s = c.args.line.now in
     let w = skipped_within s c.args.at c.requires.0 c.skip_spaces-p.ensures in
     elim c.if-at-p.branch [
-      then-at-p v ↦
+      | then-at-p v ↦
           let x =
           stands_within s (word_text c.args.name) c.skip_spaces-p.result w.1 ((stands_exactly _ _ _).0 (sym v.word_at.ensures ∙ (sym v.value-is ∙ c.if-word_at.true))) in
           record { fits = omega (arith, c.word_size.ensures) }
@@ -27,7 +27,7 @@ pub returns-then-word_at : goal.returns-then-word_at
 unfolding named_at
 returns-then-word_at c =
     elim c.if-at-p.branch [
-      then-at-p v ↦
+      | then-at-p v ↦
           rw (
             ← c.skip_spaces-p.ensures,
             lt-ltb _ _ v.if-at-p.true,
@@ -42,6 +42,6 @@ pub returns-else-word_at : goal.returns-else-word_at
 unfolding named_at
 returns-else-word_at c =
     c.if-word_at.false ∙ elim c.if-at-p.branch [
-      then-at-p v ↦ rw (← c.skip_spaces-p.ensures, lt-ltb _ _ v.if-at-p.true, sym v.word_at.ensures ∙ (sym v.value-is ∙ c.if-word_at.false))
+      | then-at-p v ↦ rw (← c.skip_spaces-p.ensures, lt-ltb _ _ v.if-at-p.true, sym v.word_at.ensures ∙ (sym v.value-is ∙ c.if-word_at.false))
       | else-at-p v ↦ rw (← c.skip_spaces-p.ensures, le-ltb _ _ v.if-at-p.false)
     ]

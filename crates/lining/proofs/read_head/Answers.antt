@@ -23,7 +23,7 @@ returns-then-r-from c =
     let from = c.from.ensures in
     let n = name_ok (name_at c.args.line.now c.skip_spaces.result) c.read_name.ensures c.in_ok-r.ensures.value in
     elim c.then-r-from.branch [
-      then-r-from-via-then-r-from w ↦ rw (← c.skip_spaces.ensures, n, ne_eqb r (34 + i) (λ e. omega (arith, w.if-r-from.true)))
+      | then-r-from-via-then-r-from w ↦ rw (← c.skip_spaces.ensures, n, ne_eqb r (34 + i) (λ e. omega (arith, w.if-r-from.true)))
       | then-r-from-via-else-r-from+then-at-next w ↦
           rw (← c.skip_spaces.ensures, n, ← c.skip_spaces-at.ensures, eq-eqb r (34 + i) (omega arith), le-ltb _ _ w.if-at-next.true)
     ]

@@ -15,7 +15,7 @@ unfolding plain_at plain_of
 returns-then-r-size_of c =
     let run = c.read_run-r in
     elim c.then-r-size_of.branch [
-      then-r-size_of-via-then-r-size_of w ↦
+      | then-r-size_of-via-then-r-size_of w ↦
           rw (← run.ensures, ← c.size_of.ensures, ne_eqb run.result.count c.size_of.result (λ e. omega (arith, w.if-r-size_of.true)))
       | then-r-size_of-via-else-r-size_of+then-most-r w ↦
           rw (← run.ensures, ← c.size_of.ensures, eq-eqb run.result.count c.size_of.result (omega arith), lt-leb _ _ w.if-most-r.true)
