@@ -31,6 +31,7 @@ fn empty(start: usize) -> Row
 
 impl Row {
     // Reads one more field into place i: a number of type ty, after the number at the place before.
+    #[inline(always)]
     fn read_field(mut self, i: usize, ty: u8, s: &[u8], marks: &[u8; 200]) -> Result<Row, Fault>
         requires { (i < 5) × (ty < number_types) }
         ensures { row_of_answer result ≡ field_more marks.now i ty s.now self }
@@ -56,7 +57,7 @@ fn read_expression(s: &[u8], at: usize, marks: &[u8; 200]) -> Result<Row, Fault>
 }
 
 // The fields of a block of this kind, from `start` on: BL, SR, PL, AL, DL, OS, FL, CN, UD, CP, OG, ZC, ST, each field by its type.
-// The types stand in the calls themselves, so that the compiler makes each call into code for its type.
+// The types stand in the calls themselves, and what is called is put into its place, so that each call becomes code for its type.
 pub fn read_row(s: &[u8], start: usize, kind: u8, marks: &[u8; 200]) -> Result<Row, Fault>
     requires { kind < kind_count }
     ensures { row_of_answer result ≡ row_of (fields_at marks.now (types_of kind) 0 s.now start) }

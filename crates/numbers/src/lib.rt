@@ -42,6 +42,7 @@ pub const NODE_NUMBER: u8 = 12;
 const KIND_COUNT: u32 = 13;
 
 // Each type's numbers are below this.
+#[inline(always)]
 pub fn limit_of(ty: u8) -> u32
     requires { ty < number_types }
     ensures { result ≡ get_or limits ty 0 }
@@ -65,6 +66,7 @@ pub fn limit_of(ty: u8) -> u32
 
 // Whether v may stand as a number of type ty after the setting `before`.
 #[tactic(auto, unfolding(crate::specs::Types::allowed, crate::specs::Types::excepted))]
+#[inline(always)]
 fn allow(ty: u8, before: u32, v: u32) -> bool
     requires { ty < number_types }
     ensures { result ≡ allowed ty before v }
@@ -81,6 +83,7 @@ fn allow(ty: u8, before: u32, v: u32) -> bool
 
 // Whether what a bit reference refers to is marked.
 #[tactic(auto, unfolding(crate::specs::Types::bit_ref))]
+#[inline(always)]
 fn is_bit_marked(r: u32, marks: &[u8; 200]) -> bool
     requires { r < 234 }
     ensures { result ≡ bit_marked marks.now (bit_ref r) }
@@ -90,6 +93,7 @@ fn is_bit_marked(r: u32, marks: &[u8; 200]) -> bool
 
 // Whether what a number of type ty refers to is marked.
 #[tactic(auto, unfolding(crate::specs::Reading::marked, crate::specs::Types::said_by, crate::specs::Types::content_of, crate::specs::Types::word_ref))]
+#[inline(always)]
 fn is_marked(ty: u8, v: u32, marks: &[u8; 200]) -> bool
     requires { v < get_or limits ty 0 }
     ensures { result ≡ marked marks.now ty v }
@@ -104,6 +108,7 @@ fn is_marked(ty: u8, v: u32, marks: &[u8; 200]) -> bool
 
 // The number of type ty at a place, after the setting `before`, and the place after it.
 #[tactic(auto, using(crate::proofs::References::allowed_below), unfolding(crate::specs::Reading::typed_at))]
+#[inline(always)]
 pub fn read_number(
     s: &[u8],
     at: usize,

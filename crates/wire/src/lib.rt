@@ -41,6 +41,7 @@ fn longer(s: &[u8], at: usize, low: u32) -> Result<(u32, usize), Unread>
 
 // The number at a place, and the place after it.
 #[tactic(auto, unfolding(crate::specs::Number::groups_at, crate::specs::Number::number_at))]
+#[inline(always)]
 pub fn number(s: &[u8], at: usize) -> Result<(u32, usize), Unread>
     ensures { result ≡ as_num (number_at s.now at) }
 {
