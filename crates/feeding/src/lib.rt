@@ -39,8 +39,6 @@ fn open(window: &[u8], program: &mut [u8], out: &mut [u8]) -> Fed
     }
 }
 
-// Kept: its buffers are parameters of their own, by what may not change: any that have room may be lent, and the row `feeding_feed` of
-// Determinacy says each.
 // Feeds the bytes at hand.
 pub fn feed(window: &[u8], player: Player, program: &mut [u8], out: &mut [u8]) -> Fed
     requires { (program_bytes ≤ length program.old) × ((Held player program.old) × Roomy window.now out.old) }

@@ -23,8 +23,6 @@ fn ended_at(to: usize) -> Keep
     }
 }
 
-// Kept: its buffers are parameters of their own, by what may not change: any that have room may be lent, and the row `intake_go_on` of
-// Determinacy says each.
 // Goes on with what was read behind the bytes that are kept.
 pub fn go_on(
     got: io::Result<Option<usize>>,

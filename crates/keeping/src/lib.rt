@@ -18,8 +18,6 @@ pub struct Keep {
     pub to: usize,
 }
 
-// Kept: its buffers are parameters of their own, by what may not change: any that have room may be lent, and the row `keeping_feed_window` of
-// Determinacy says each.
 // Feeds the bytes up to `end`, and moves what is left of them down.
 pub fn feed_window(
     buf: &mut [u8],

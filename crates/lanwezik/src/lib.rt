@@ -12,6 +12,7 @@ ghost use Rattle.lanwezik.specs.Answers.{acceptance, scanned, given, expression,
 use calls::{ScanAnswer, TakeAnswer};
 
 // Number of refusal and place, memory and step figure.
+// Kept: the C interface, its fields are those of include/lanwezik.h.
 #[repr(C)]
 #[derive(Drop)]
 pub struct Acceptance {
@@ -44,6 +45,7 @@ pub struct Inputs {
 }
 
 // Number of refusal and place, alarm word, steps, rises.
+// Kept: the C interface, its fields are those of include/lanwezik.h.
 #[repr(C)]
 #[derive(Drop)]
 pub struct Scanned {
@@ -69,6 +71,7 @@ impl From<ScanAnswer> for Scanned {
 }
 
 // Number of refusal; 1 if an entry was found, and then its alarm number and time.
+// Kept: the C interface, its fields are those of include/lanwezik.h.
 #[repr(C)]
 #[derive(Drop)]
 pub struct Given {
@@ -92,6 +95,7 @@ impl From<TakeAnswer> for Given {
 }
 
 // Number of refusal, and how many node numbers there are; place; the node numbers, operator first, and zeros behind them.
+// Kept: the C interface, its fields are those of include/lanwezik.h.
 #[repr(C)]
 #[derive(Drop)]
 pub struct Expression {

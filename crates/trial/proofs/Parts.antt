@@ -21,8 +21,12 @@ abbrev pub with_alarms : Ran → Option ℕ → Option Trial
 with_alarms r (Some w) = Some (record { steps = r.steps; alarms = w })
 with_alarms r None = None
 
+abbrev pub if_good : Bool → Ran → Option ℕ → Option Trial
+if_good true r w = with_alarms r w
+if_good false r w = None
+
 abbrev pub together : Option Ran → (Ran → Option ℕ) → Option Trial
-together (Some r) f = with_alarms r (f r)
+together (Some r) f = if_good r.good r (f r)
 together None f = None
 
 pub by_parts : (e : ℕ) (a : Arrays) (m : Marks) (n : ℕ) (s : List ℕ) (at : ℕ) (r : Option Ran) → r ≡ ran_of e a (blocks_at m n s at)

@@ -51,6 +51,9 @@ pub fn try_program(
     let mut marks = [0u8; 200];
     mark_first(n, &mut marks);
     let r = turns::turns(program, start, n, elapsed, &marks, bits, words, ticks, pins)?;
+    if !r.good {
+        return None;
+    }
     let alarms = alarms::alarms(program, r.next, bits, &marks)?;
     Some(Trial {
         steps: r.steps,

@@ -1,16 +1,14 @@
 -- One more block of a run: the blocks read so far and what is left of them, and what the code keeps. Assumes nothing.
 use Prim.Native.Nat.{ℕ, suc, ◌+◌, ◌*◌, ◌-◌, ◌<◌, ◌≤◌}
 use mathlib.Core.Path.{◌≡◌, refl, sym, ap, ◌∙◌}
-use mathlib.Core.Bool.{Bool, true, false, ◌&&◌, and-false}
+use mathlib.Core.Bool.{Bool, ◌&&◌}
 use mathlib.Core.List.{List, [], ◌∷◌, ◌++◌, append_assoc, append-nil}
 use native.Mathlib.Omega.{arith}
 use native.Mathlib.Numerals.{add-one}
 use native.Mathlib.Nat.{sub-zero}
 use lib.Dec.{leb}
-use borrow.Author.Tests.{le-leb, lt-leb}
 use lib.ListN.{length, set, replicate, length-append}
 use Rattle.std.specs.Prelude.{Some, None}
-use Rattle.terms.specs.Choice.{pick}
 use Rattle.numbers.specs.Blocks.{Block, block_of}
 use Rattle.kinds.specs.Kinds.{memory_limit, memory_of, mark_of}
 use Rattle.wire.specs.Reading.{Read, got, fault}
@@ -173,19 +171,10 @@ module _ (e : ℕ) (k : Marks) (n : ℕ) (s : List ℕ) (start : ℕ) (a : Array
       pub after : here ≡ turns_to e (blocks_while k n s start) (length (blocks_while k n s start)) a
       after = rw (all_while, g.count) g.turned
 
-      done : {answered light : Bool} → answered ≡ all_answer n asked marks → light ≡ leb weight memory_limit
-          → pick (answered && light) (Some (record { steps = steps; next = at })) None ≡ ran_of e a (blocks_at k n s start)
+      pub done : {answered light : Bool} → answered ≡ all_answer n asked marks → light ≡ leb weight memory_limit
+          → Some (record { good = answered && light; steps = steps; next = at }) ≡ ran_of e a (blocks_at k n s start)
       unfolding passes_trial
       done p q =
           let c : i ≡ n = sym g.count ∙ long in
           let w : steps ≡ turn_steps e g.read n a = g.stepped ∙ rw c in
           rw (all_read, long, p, q, g.asks, g.marked, g.weighed, w)
-
-      pub passed : true ≡ all_answer n asked marks → weight ≤ memory_limit → Some (record { steps = steps; next = at }) ≡ ran_of e a (blocks_at k n s start)
-      passed p h = done p (sym (le-leb _ _ h))
-
-      pub mute : false ≡ all_answer n asked marks → None ≡ ran_of e a (blocks_at k n s start)
-      mute p = done p refl
-
-      pub heavy : memory_limit < weight → None ≡ ran_of e a (blocks_at k n s start)
-      heavy h = ap (λ (b : Bool). pick b (Some (record { steps = steps; next = at })) None) (sym (and-false (all_answer n asked marks))) ∙ done refl (sym (lt-leb _ _ h))

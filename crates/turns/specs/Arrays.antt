@@ -1,7 +1,6 @@
 -- What a scan works on (ours): four arrays. `bits` has off, on, 32 inputs and 200 outputs, so that a bit reference is an index; `words` has 8 analog
 -- words and 200 words; `ticks` and `pins` have one for each place.
 use Rattle.std.specs.Prelude.{Bool, false, List, [], ◌∷◌, ℕ, zero, suc, ◌+◌, ℤ, pos, length, get_or, set, Option, Some, None}
-use Rattle.terms.specs.Choice.{pick}
 use Rattle.wire.specs.Reading.{Read, got, fault}
 use Rattle.numbers.specs.Blocks.{Block, block_of}
 use Rattle.numbers.specs.Reading.{Marks}
@@ -57,7 +56,7 @@ turn_steps e bs (suc n) a = turn_steps e bs n a + steps_of (bit_in (turns_to e b
 
 -- the turns of blocks that were to be read: whether they were and pass their trial, their steps, and the place after them
 abbrev pub ran_of : ℕ → Arrays → Read (List Block) → Option Ran
-ran_of e a (got bs next) = pick (passes_trial bs) (Some (record { steps = turn_steps e bs (length bs) a; next = next })) None
+ran_of e a (got bs next) = Some (record { good = passes_trial bs; steps = turn_steps e bs (length bs) a; next = next })
 ran_of e a (fault n at) = None
 
 -- up to n blocks, to the first that cannot be read, and the arrays after their turns

@@ -25,14 +25,16 @@ fn all_answer(n: u32, asked: &[u8; 200], own: &[u8; 200]) -> bool
     silent == 0
 }
 
-// The steps of blocks that were read and pass their trial, and the place after them.
+// Whether blocks that were read pass their trial, their steps, and the place after them.
+// Kept: what may not change, `turns` tells steps and place of blocks that fail their trial too.
 #[derive(Drop)]
 pub struct Ran {
+    pub good: bool,
     pub steps: u32,
     pub next: usize,
 }
 
-// The turns of n blocks from `start` on, in ascending number; none if they cannot be read or do not pass their trial. `marks` says which blocks may be referred to.
+// The turns of n blocks from `start` on, in ascending number; none if they cannot be read. `marks` says which blocks may be referred to.
 pub fn turns(
     s: &[u8],
     start: usize,
@@ -76,9 +78,10 @@ pub fn turns(
         at = t.next;
     }
     let light = memory <= kinds::MEMORY_LIMIT;
-    if all_answer(n, &asked, &own) && light {
-        Some(Ran { steps, next: at })
-    } else {
-        None
-    }
+    let answered = all_answer(n, &asked, &own);
+    Some(Ran {
+        good: if answered { light } else { false },
+        steps,
+        next: at,
+    })
 }

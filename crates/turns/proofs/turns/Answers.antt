@@ -1,4 +1,4 @@
-use Rattle.turns.proofs.Going.{begin, small, go_on, stop, after, passed, mute, heavy}
+use Rattle.turns.proofs.Going.{begin, small, go_on, stop, after, done}
 use Rattle.turns.specs.Arrays.{Arrays, arrays, place_at}
 use lib.IntN.{pos}
 use lib.ListN.{get_or}
@@ -9,9 +9,8 @@ use mir.Val.{SFits}
 use mir.Syntax.{w16}
 use borrow.Author.Rules.{rules}
 use native.Mathlib.Omega.{arith}
-use mathlib.Core.Path.{◌≡◌, sym, ◌∙◌}
+use mathlib.Core.Path.{◌≡◌, refl, sym, ◌∙◌}
 use Prim.Native.Nat.{ℕ, ◌+◌}
-use Rattle.turns.proofs.turns.Goals.{else-all_answer-via-then-all_answer+else-light, else-all_answer-via-else-all_answer}
 use Rattle.turns.proofs.turns.Goals as goal
 
 -- the word that is read is the word that is there
@@ -51,18 +50,10 @@ loop-i-preserved c =
     (go_on _ _ _ _ _ _ l.invariant (omega arith) (word_kept (arrays l.bits l.words l.ticks l.pins) l.i f) (omega arith)
     c.in-Ok.ensures.value c.in-Ok.ensures.asks)
 
-pub returns-then-light : goal.returns-then-light
-returns-then-light c =
-    let g = c.loop-i.invariant in
-    record { value = passed _ _ _ _ _ _ g (omega arith) (sym c.if-all_answer.true ∙ c.all_answer.ensures) (omega arith); after = after _ _ _ _ _ _ g (omega arith) }
+pub returns-then-answered : goal.returns-then-answered
+returns-then-answered c =
+    let g = c.loop-i.invariant in record { value = done _ _ _ _ _ _ g (omega arith) (sym c.if-answered.true ∙ c.all_answer-answered.ensures) refl; after = after _ _ _ _ _ _ g (omega arith) }
 
-pub returns-else-all_answer : goal.returns-else-all_answer
-returns-else-all_answer c =
-    let g = c.loop-i.invariant in record {
-      value =
-          elim c.else-all_answer.branch [
-            | else-all_answer-via-then-all_answer+else-light w ↦ heavy _ _ _ _ _ _ g (omega arith) (omega arith)
-            | else-all_answer-via-else-all_answer w ↦ mute _ _ _ _ _ _ g (omega arith) (sym w.if-all_answer.false ∙ c.all_answer.ensures)
-          ];
-      after = after _ _ _ _ _ _ g (omega arith);
-    }
+pub returns-else-answered : goal.returns-else-answered
+returns-else-answered c =
+    let g = c.loop-i.invariant in record { value = done _ _ _ _ _ _ g (omega arith) (sym c.if-answered.false ∙ c.all_answer-answered.ensures) refl; after = after _ _ _ _ _ _ g (omega arith) }
