@@ -1,4 +1,4 @@
--- Arrays made element by element: by `from_fn` of a function that changes nothing, and by `map`. Assumes nothing.
+-- Arrays made element by element, by `from_fn` of a function that changes nothing. Assumes nothing.
 use mathlib.Core.Path.{◌≡◌, refl, sym, ap, subst, ◌∙◌}
 use mathlib.Core.Bool.{Bool, true, false}
 use mathlib.Core.List.{List, map}
@@ -34,8 +34,6 @@ module _ {F A : Type 0} (g : Mut F (ℕ × Unit {0}) A) (f : F) (t : ℕ → A) 
   pub listed_made : (n : ℕ) → IsFromFnResult g f ys n → ys ≡ listed n 0 t
   listed_made n m = listed_if n ys t m.long (λ k d h. made_from n 0 m.each k d (omega arith) (omega arith))
 
-pub map_made :
-    {A B : Type 0} (n : ℕ) (xs : List A) (ys : List B) (f : A → B) (x : A) → length xs ≡ n → length ys ≡ n
-    → ((k : ℕ) (d : B) → k < n → get_or ys k d ≡ f (get_or xs k x)) → ys ≡ map f xs
-map_made n xs ys f x e l h =
-    listed_if n ys (λ k. f (get_or xs k x)) l h ∙ sym (map_listed f n 0 (λ k. get_or xs k x)) ∙ ap (map f) (listed_all n xs x e)
+pub listed_mapped :
+    {A B : Type 0} (n : ℕ) (xs : List A) (f : A → B) (x : A) → length xs ≡ n → listed n 0 (λ k. f (get_or xs k x)) ≡ map f xs
+listed_mapped n xs f x e = sym (map_listed f n 0 (λ k. get_or xs k x)) ∙ ap (map f) (listed_all n xs x e)

@@ -31,8 +31,8 @@ pub fn put_places(
 )
     ensures { columns_after ticks words pins outputs ≡ columns_of ps }
 {
-    *ticks = ps.map(|p| p.ticks);
-    *words = ps.map(|p| p.word);
-    *pins = ps.map(|p| p.pins);
-    *outputs = ps.map(|p| u8::from(p.out));
+    *ticks = array::from_fn(|i| ps[i].ticks);
+    *words = array::from_fn(|i| ps[i].word);
+    *pins = array::from_fn(|i| ps[i].pins);
+    *outputs = array::from_fn(|i| u8::from(ps[i].out));
 }
