@@ -32,7 +32,7 @@ fn open(window: &[u8], program: &mut [u8], out: &mut [u8]) -> Fed
             telling::ended(window.len(), to)
         }
         Err(Halt::Waits) => Fed {
-            player: Player::Opening,
+            player: Player::fresh(),
             used: 0,
             to: 0,
         },

@@ -31,8 +31,11 @@ pub fn read_head(line: &[u8], i: u8) -> Option<(u8, usize)>
     ensures { result ≡ as_head (heading_of i line.now) }
 {
     let (r, next) = spelling::read_name(line, spelling::skip_spaces(line, 0)).ok()?;
+    if r != 34 + u32::from(i) {
+        return None;
+    }
     let at = spelling::skip_spaces(line, next);
-    if r != 34 + u32::from(i) || at <= next {
+    if at <= next {
         return None;
     }
     let k = find_kind(line, at)?;

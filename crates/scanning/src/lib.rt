@@ -62,7 +62,7 @@ pub fn run(
     image::columns_sized(ticks, words, pins, outputs);
     let every = [2u8; 200];
     let Ok((n, next)) = numbers::read_number(program, 0, numbers::BLOCK_COUNT, 0, &every) else {
-        return None;
+        return trial::refused();
     };
     run_counted(
         program, next, n, elapsed, bits, analogs, ticks, words, pins, outputs,

@@ -27,7 +27,7 @@ fn started() -> Keep
     ensures { result ≡ record { player = player_of opening; kept = 0; to = 0 } }
 {
     Keep {
-        player: Player::Opening,
+        player: Player::fresh(),
         kept: 0,
         to: 0,
     }

@@ -24,8 +24,7 @@ pub struct Trial {
     pub alarms: u32,
 }
 
-// The trial of a program that is not accepted.
-// Kept: what may not change, it is public and `Determinacy` has a row of it.
+// The trial of a program that is not accepted: none.
 pub fn refused() -> Option<Trial>
     ensures { result ≡ no_trial }
 {
@@ -52,7 +51,7 @@ pub fn try_program(
     mark_first(n, &mut marks);
     let r = turns::turns(program, start, n, elapsed, &marks, bits, words, ticks, pins)?;
     if !r.good {
-        return None;
+        return refused();
     }
     let alarms = alarms::alarms(program, r.next, bits, &marks)?;
     Some(Trial {

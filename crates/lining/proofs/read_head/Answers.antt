@@ -7,7 +7,6 @@ use Rattle.spelling.proofs.Names.{name_ok, name_off}
 use Rattle.layout.specs.Heads.{kind_at, letters_at, heading_of}
 use Rattle.lining.proofs.Finding.{kind_found, kind_lost, letters_end}
 use Rattle.lining.proofs.read_head.Goals as goal
-use Rattle.lining.proofs.read_head.Goals.{then-r-from-via-then-r-from, then-r-from-via-else-r-from+then-at-next}
 
 pub returns-in_err-r : goal.returns-in_err-r
 unfolding heading_of
@@ -22,11 +21,15 @@ returns-then-r-from c =
     let r = c.in_ok-r.r in
     let from = c.from.ensures in
     let n = name_ok (name_at c.args.line.now c.skip_spaces.result) c.read_name.ensures c.in_ok-r.ensures.value in
-    elim c.then-r-from.branch [
-      | then-r-from-via-then-r-from w ↦ rw (← c.skip_spaces.ensures, n, ne_eqb r (34 + i) (λ e. omega (arith, w.if-r-from.true)))
-      | then-r-from-via-else-r-from+then-at-next w ↦
-          rw (← c.skip_spaces.ensures, n, ← c.skip_spaces-at.ensures, eq-eqb r (34 + i) (omega arith), le-ltb _ _ w.if-at-next.true)
-    ]
+    rw (← c.skip_spaces.ensures, n, ne_eqb r (34 + i) (λ e. omega (arith, c.if-r-from.true)))
+
+pub returns-then-at-next : goal.returns-then-at-next
+unfolding heading_of
+returns-then-at-next c =
+    let i = c.args.i in
+    let from = c.from.ensures in
+    let n = name_ok (name_at c.args.line.now c.skip_spaces.result) c.read_name.ensures c.in_ok-r.ensures.value in
+    rw (← c.skip_spaces.ensures, n, ← c.skip_spaces-at.ensures, eq-eqb c.in_ok-r.r (34 + i) (omega arith), le-ltb _ _ c.if-at-next.true)
 
 pub returns-in_err-k : goal.returns-in_err-k
 unfolding heading_of letters_at
