@@ -17,6 +17,7 @@ pub enum Unread {
 
 // The number whose first group is `low`, where its other groups, one or two, stand from `at` on.
 #[tactic(auto, unfolding(crate::specs::Number::groups_at))]
+#[inline(always)]
 fn longer(s: &[u8], at: usize, low: u32) -> Result<(u32, usize), Unread>
     requires { low < 128 }
     ensures { result ≡ as_num (more low (groups_at 2 not_zero s.now at)) }

@@ -32,4 +32,4 @@ returns-in-Err-Bad c =
 
 pub returns-in-Err-Waits : goal.returns-in-Err-Waits
 returns-in-Err-Waits c =
-    waits_open _ _ (rw c.in-Err-Waits.field-0-is at c.in-Err-Waits.ensures) refl
+    rw c.fresh-in-Err-Waits.ensures (waits_open _ _ (rw c.in-Err-Waits.field-0-is at c.in-Err-Waits.ensures) refl)

@@ -15,7 +15,7 @@ run_counted-requires c =
 pub returns-in_default : goal.returns-in_default
 returns-in_default c =
     let n = no_count _ _ _ (sym c.in_default.ensures) in
-    record { value = n.answer; after = n.columns }
+    record { value = c.refused.ensures ∙ n.answer; after = n.columns }
 
 pub returns : goal.returns
 returns c =

@@ -2,7 +2,7 @@
 use Rattle.trial.proofs.FirstBlocks.{from_none}
 use Rattle.trial.proofs.Parts.{by_parts}
 use borrow.Author.Tests.{not-true, not-false}
-use mathlib.Core.Path.{◌≡◌}
+use mathlib.Core.Path.{◌≡◌, ◌∙◌}
 use mathlib.Core.Bool.{true, false}
 use Rattle.trial.proofs.try_program.Goals as goal
 
@@ -19,7 +19,7 @@ returns-then-not-r c =
     let w = rw m at c.turns.ensures.after in
     let p = by_parts _ _ _ _ _ _ _ (rw m at c.turns.ensures.value) _ w in
     let g : c.in_ok-r.r.good ≡ false = not-true _ c.if-not-r.true in
-    record { value = rw (c.in_ok-r.was, g) at p; after = w }
+    record { value = c.refused.ensures ∙ rw (c.in_ok-r.was, g) at p; after = w }
 
 pub returns-in_err-alarms : goal.returns-in_err-alarms
 returns-in_err-alarms c =
