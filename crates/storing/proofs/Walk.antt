@@ -31,11 +31,12 @@ module _ {A : Type 0} (converts : A → ℕ → Type 0) where
       }
 
 -- what converts to itself is put as it is
-same : (xs ns : List ℕ) → Each (λ x y. y ≡ x) xs ns → ns ≡ xs
-same [] [] e = refl
-same [] (n ∷ ns) e = absurd e
-same (x ∷ xs) [] e = absurd e
-same (x ∷ xs) (n ∷ ns) e = rw (e.0, same xs ns e.1) refl
+module _ {converts : ℕ → ℕ → Type 0} (itself : (x n : ℕ) → converts x n → n ≡ x) where
+  same : (xs ns : List ℕ) → Each converts xs ns → ns ≡ xs
+  same [] [] e = refl
+  same [] (n ∷ ns) e = absurd e
+  same (x ∷ xs) [] e = absurd e
+  same (x ∷ xs) (n ∷ ns) e = rw (itself x n e.0, same xs ns e.1) refl
 
-pub put_same : {xs l : List ℕ} {at : ℕ} {m : List ℕ} {next : ℕ} → PutEach (λ x y. y ≡ x) xs l at m next → Put (bytes_of xs) l at m next
-put_same {xs} w = rw (same xs w.numbers w.each) at w.put
+  pub put_same : {given xs l : List ℕ} {at : ℕ} {m : List ℕ} {next : ℕ} → PutEach converts given l at m next → given ≡ xs → Put (bytes_of xs) l at m next
+  put_same {given} w e = rw e at (rw (same given w.numbers w.each) at w.put)

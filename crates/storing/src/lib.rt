@@ -29,16 +29,38 @@ pub fn put_number(out: &mut [u8], at: usize, v: u32) -> usize
     at + MOST_GROUPS
 }
 
-// Puts numbers one after the other: those of fields, or the bytes of an expression's nodes, operator first.
-pub fn put_numbers<T: Copy + Into<u32>>(out: &mut [u8], at: usize, numbers: &[T]) -> usize
-    requires { at + 3 * length numbers.now < 2 ^ 64 }
-    ensures { PutEach T.converts numbers.now out.old at out.new result }
+// Puts values one after the other, each as the number that a function makes of it.
+fn put_each<T: Copy, F: Fn(T) -> u32>(
+    out: &mut [u8],
+    at: usize,
+    values: &[T],
+    number_of: F,
+) -> usize
+    requires callable { F.IsAlwaysCallable number_of }
+    requires room { at + 3 * length values.now < 2 ^ 64 }
+    ensures { PutEach (F.post number_of) values.now out.old at out.new result }
 {
     let mut p = at;
-    for number in numbers {
-        p = put_number(out, p, (*number).into());
+    for value in values {
+        p = put_number(out, p, number_of(*value));
     }
     p
+}
+
+// Puts numbers one after the other.
+pub fn put_numbers(out: &mut [u8], at: usize, numbers: &[u32]) -> usize
+    requires { at + 3 * length numbers.now < 2 ^ 64 }
+    ensures { Put (bytes_of numbers.now) out.old at out.new result }
+{
+    put_each(out, at, numbers, |number| number)
+}
+
+// Puts the numbers of an expression's nodes, operator first.
+pub fn put_nodes(out: &mut [u8], at: usize, nodes: &[u8]) -> usize
+    requires { at + 3 * length nodes.now < 2 ^ 64 }
+    ensures { Put (bytes_of nodes.now) out.old at out.new result }
+{
+    put_each(out, at, nodes, |node| u32::from(node))
 }
 
 // Puts a block: its kind, and then the numbers of its fields.

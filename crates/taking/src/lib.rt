@@ -28,7 +28,7 @@ fn put_tree(out: &mut [u8], at: usize, nodes: &[u8]) -> usize
     ensures { Put (bytes_of (0 ∷ nodes.now)) out.old at out.new result }
 {
     let p = storing::put_number(out, at, 0);
-    storing::put_numbers(out, p, nodes)
+    storing::put_nodes(out, p, nodes)
 }
 
 // The formula of a BL, a space before it, from a place to the end of the line.

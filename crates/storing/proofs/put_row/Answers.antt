@@ -2,7 +2,6 @@
 use native.Mathlib.Omega.{arith}
 use Rattle.filling.proofs.Puts.{put_then}
 use Rattle.storing.proofs.Bytes.{number_near}
-use Rattle.storing.proofs.Walk.{put_same}
 use Rattle.storing.proofs.put_row.Goals as goal
 
 pub put_numbers-requires : goal.put_numbers-requires
@@ -11,4 +10,4 @@ put_numbers-requires c =
 
 pub returns : goal.returns
 returns c =
-    put_then (rw c.from.ensures at c.put_number-p.ensures) (put_same c.put_numbers.ensures)
+    put_then (rw c.from.ensures at c.put_number-p.ensures) c.put_numbers.ensures
