@@ -21,7 +21,6 @@ pub enum Node {
 
 // The node at a place, where `depth` levels and `left` nodes are left, and the place after it.
 #[tactic(auto, unfolding(crate::specs::Reading::head_at))]
-#[inline(always)]
 pub fn head(
     s: &[u8],
     at: usize,
