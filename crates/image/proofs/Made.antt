@@ -33,7 +33,3 @@ module _ {F A : Type 0} (g : Mut F (ℕ × Unit {0}) A) (f : F) (t : ℕ → A) 
 
   pub listed_made : (n : ℕ) → IsFromFnResult g f ys n → ys ≡ listed n 0 t
   listed_made n m = listed_if n ys t m.long (λ k d h. made_from n 0 m.each k d (omega arith) (omega arith))
-
-pub listed_mapped :
-    {A B : Type 0} (n : ℕ) (xs : List A) (f : A → B) (x : A) → length xs ≡ n → listed n 0 (λ k. f (get_or xs k x)) ≡ map f xs
-listed_mapped n xs f x e = sym (map_listed f n 0 (λ k. get_or xs k x)) ∙ ap (map f) (listed_all n xs x e)

@@ -31,8 +31,10 @@ pub fn put_places(
 )
     ensures { columns_after ticks words pins outputs ≡ columns_of ps }
 {
-    *ticks = array::from_fn(|i| ps[i].ticks);
-    *words = array::from_fn(|i| ps[i].word);
-    *pins = array::from_fn(|i| ps[i].pins);
-    *outputs = array::from_fn(|i| u8::from(ps[i].out));
+    for i in 0..200 {
+        ticks[i] = ps[i].ticks;
+        words[i] = ps[i].word;
+        pins[i] = ps[i].pins;
+        outputs[i] = u8::from(ps[i].out);
+    }
 }
